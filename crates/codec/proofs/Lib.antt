@@ -1,0 +1,4 @@
+-- Laws that belong to no one function.
+pub mod Masks
+pub mod Check
+pub mod Bytes

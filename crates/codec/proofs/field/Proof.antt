@@ -1,0 +1,17 @@
+-- `field` takes bits out of a word.
+use borrow.Author.Needs.{needs}
+use Rattle.codec.proofs.Masks.{mask-room, masked, shifted-out, unmasked}
+use Rattle.codec.proofs.field.Statement.{statement}
+use Rattle.codec.proofs.field.Tie as tie
+
+pub field-spec : {M : Type 1} → statement M
+field-spec =
+    tie.close
+    (tie.spec
+    (λ c. shifted-out _ _ _ (c .before .fits .word .fits) (c .if1 .taken))
+    (λ c. search needs)
+    (λ c. unmasked _ _ _ (c .before .before .fits .word .fits) (c .if2 .taken))
+    (λ c. search needs)
+    (λ c. search needs)
+    (λ c. mask-room (c .before .before .args .width) (c .if2 .left))
+    (λ c. masked _ (c .before .before .args .width) (c .if2 .left)))

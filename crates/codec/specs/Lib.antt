@@ -1,0 +1,4 @@
+-- What every encoder and decoder shares: layouts of bits, formats with a check, and the answers with their numbers.
+pub mod Answer
+pub mod Layout
+pub mod Format

@@ -1,0 +1,72 @@
+// The two checks of the wire: CRC7 of command frames, responses and registers, CRC16 of data packets.
+// Both keep the register at the top of its word, so that a whole byte enters at once.
+ghost use mathlib.Core.Path.{_≡_};
+ghost use mathlib.Core.Bool.{false};
+ghost use mathlib.Core.List.{[], _∷_, _++_};
+ghost use Rattle.crc.specs.Bits.{bits};
+ghost use Rattle.crc.specs.Crc.{poly7, poly16, shift, turns, crc7Of, crc16Of};
+
+// x^7 + x^3 + 1, with the register one place up
+const POLY7: u8 = 0x12;
+// x^16 + x^12 + x^5 + 1
+const POLY16: u16 = 0x1021;
+
+// One turn of the register.
+fn shift7(r: u8) -> u8
+    ensures { λ q. ⌜ bits 8 q ≡ shift (poly7 ++ (false ∷ [])) (bits 8 r) ⌝ }
+{
+    if r & 0x80 != 0 {
+        (r << 1) ^ POLY7
+    } else {
+        r << 1
+    }
+}
+
+fn shift16(r: u16) -> u16
+    ensures { λ q. ⌜ bits 16 q ≡ shift poly16 (bits 16 r) ⌝ }
+{
+    if r & 0x8000 != 0 {
+        (r << 1) ^ POLY16
+    } else {
+        r << 1
+    }
+}
+
+// Eight turns: a byte that has entered is worked in.
+fn turn7(r: u8) -> u8
+    ensures { λ q. ⌜ bits 8 q ≡ turns (poly7 ++ (false ∷ [])) 8 (bits 8 r) ⌝ }
+{
+    shift7(shift7(shift7(shift7(shift7(shift7(shift7(shift7(r))))))))
+}
+
+fn turn16(r: u16) -> u16
+    ensures { λ q. ⌜ bits 16 q ≡ turns poly16 8 (bits 16 r) ⌝ }
+{
+    shift16(shift16(shift16(shift16(shift16(shift16(shift16(shift16(r))))))))
+}
+
+// The CRC7 of bytes.
+pub fn crc7(s: &[u8]) -> u8
+    ensures { λ r. ⌜ r ≡ crc7Of (now (s .entry)) ⌝ }
+{
+    let mut r: u8 = 0;
+    let mut i: usize = 0;
+    while i < s.len() {
+        r = turn7(r ^ s[i]);
+        i += 1;
+    }
+    r >> 1
+}
+
+// The CRC16 of bytes.
+pub fn crc16(s: &[u8]) -> u16
+    ensures { λ r. ⌜ r ≡ crc16Of (now (s .entry)) ⌝ }
+{
+    let mut r: u16 = 0;
+    let mut i: usize = 0;
+    while i < s.len() {
+        r = turn16(r ^ ((s[i] as u16) << 8));
+        i += 1;
+    }
+    r
+}
