@@ -2,14 +2,14 @@
 use mathlib.Core.Path.{_≡_, refl, sym, ap, ap₂, _∙_}
 use mathlib.Core.Bool.{Bool}
 use mathlib.Core.List.{List, [], _∷_, _++_, append-nil}
-use Prim.Native.Nat.{ℕ, zero, suc, _+_, _-_, _*_, _/_, _%_, _^_, _<_, _≤_}
-use native.Mathlib.Nat.{mod-lt, mod-eq-of-lt, add-comm, div-one}
+use Prim.Native.Nat.{ℕ, zero, suc, _+_, _-_, _*_, _/_, _%_, _^_, _<_, _≤_, min}
+use native.Mathlib.Nat.{mod-lt, mod-eq-of-lt, add-comm, div-one, zero-min, min-zero, suc-min-suc}
 use native.Mathlib.Numerals.{add-one}
 use native.Mathlib.Omega.{arith}
 use lib.Bits.{bitAnd, bitOr, or-shifted, and-mask}
-use lib.ListN.{length, getD, take, drop, set, length-set}
+use lib.ListN.{length, getD, take, drop, set, length-set, length-append, length-drop}
 use lib.Pow.{pow-pos, high, low, mod-pow-add, mod-mod-pow, shr-shr}
-use lib.Seq.{take-suc, drop-cons, getD-set-same, drop-set-lt, take-all, lt-length-set, drop-length}
+use lib.Seq.{take-suc, drop-cons, getD-set-same, drop-set-lt, take-all, lt-length-set, drop-length, drop-nil, set-at, append-snoc, length-take-le}
 use Rattle.crc.specs.Bits.{bits, number, bitsOf, bytes}
 use Rattle.crc.proofs.Bits.{bitsOf-append, number-append, number-bits, length-bits, bits-split, bytes-append}
 use Rattle.codec.proofs.Masks.{shifted}
@@ -102,3 +102,28 @@ written-more n value v i out h w =
 pub written-all : (n value v i : ℕ) (out : List ℕ) → i ≤ 0 → Written n value v i out → out ≡ bytes n (bits (8 * n) value)
 written-all n value v zero out h w = w .tail ∙ ap (λ (k : ℕ). bytes k (bits (8 * k) value)) (omega arith)
 written-all n value v (suc i) out h w = absurd (omega arith)
+
+-- ---- copying
+
+pub copied-more : (out s : List ℕ) (i : ℕ) → i < length out → i < length s
+    → set (take i s ++ drop i out) i (getD s i 0) ≡ take (i + 1) s ++ drop (i + 1) out
+copied-more out s i ho hs =
+    ap (λ (l : List ℕ). set (take i s ++ l) i (getD s i 0)) (drop-cons out i 0 ho)
+    ∙ set-at (take i s) (getD out i 0) (drop (suc i) out) (getD s i 0) i (length-take-le i s (omega arith))
+    ∙ sym (append-snoc (take i s) (getD s i 0) (drop (suc i) out))
+    ∙ ap (λ (l : List ℕ). l ++ drop (suc i) out) (sym (take-suc s i 0 hs))
+    ∙ ap (λ (k : ℕ). take k s ++ drop k out) (sym (add-one i))
+
+take-min : (k : ℕ) (s : List ℕ) → take (min k (length s)) s ≡ take k s
+take-min zero s = ap (λ (i : ℕ). take i s) (zero-min (length s))
+take-min (suc k) [] = ap (λ (i : ℕ). take i []) (min-zero (suc k))
+take-min (suc k) (x ∷ s) = ap (λ (i : ℕ). take i (x ∷ s)) (suc-min-suc k (length s)) ∙ ap (λ (l : List ℕ). x ∷ l) (take-min k s)
+
+drop-min : (k : ℕ) (s : List ℕ) → drop (min (length s) k) s ≡ drop k s
+drop-min k [] = drop-nil (min zero k) ∙ sym (drop-nil k)
+drop-min zero (x ∷ s) = ap (λ (i : ℕ). drop i (x ∷ s)) (min-zero (suc (length s)))
+drop-min (suc k) (x ∷ s) = ap (λ (i : ℕ). drop i (x ∷ s)) (suc-min-suc (length s) k) ∙ drop-min k s
+
+pub copied-all : (out s : List ℕ) (n : ℕ) → n ≡ min (length out) (length s) → take n s ++ drop n out ≡ take (length out) s ++ drop (length s) out
+copied-all out s n e =
+    ap (λ (k : ℕ). take k s ++ drop k out) e ∙ ap₂ (λ (x y : List ℕ). x ++ y) (take-min (length out) s) (drop-min (length s) out)

@@ -1,5 +1,5 @@
 -- Answers of encoders and decoders, and the numbers of 01's table of refused calls.
-use mathlib.Core.List.{List, _++_}
+use mathlib.Core.List.{List, [], _++_}
 use Prim.Native.Nat.{ℕ}
 use lib.ListN.{length, drop}
 use Rattle.codec.specs.declared.Encoded.{Encoded}
@@ -43,3 +43,12 @@ refuse k out = record { answer = refused k; buffer = out }
 -- bytes are written as a prefix; those behind it stay
 abbrev pub emit : List ℕ → List ℕ → Effect
 emit s out = record { answer = done (length s); buffer = s ++ drop (length s) out }
+
+-- what a decoder that hands back a part of its input leaves: 0 and the part, or the number and nothing
+abbrev pub why : Outcome (List ℕ) → ℕ
+why (done part) = 0
+why (refused k) = k
+
+abbrev pub part : Outcome (List ℕ) → List ℕ
+part (done p) = p
+part (refused k) = []

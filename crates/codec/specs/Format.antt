@@ -1,7 +1,7 @@
 -- Formats: so many bytes, their slots, and the check behind these. Every encoder and decoder but the packets' is one of these two.
 use mathlib.Core.Bool.{Bool, true, cond, _&&_}
 use mathlib.Core.List.{List, [], _∷_, _++_}
-use Prim.Native.Nat.{ℕ}
+use Prim.Native.Nat.{ℕ, _+_, _*_}
 use lib.Dec.{eqb, ltb}
 use lib.ListN.{length, take, drop}
 use Rattle.crc.specs.Bits.{bitsOf, bytes}
@@ -21,6 +21,16 @@ pub record Format : Type 0 where
   pub slots : List Slot
   pub ending : Ending
 
+-- how many bits are behind the slots
+unfoldable pub endWidth : Ending → ℕ
+endWidth bare = 0
+endWidth (crc7From k) = 8
+
+-- the slots and the check fill the bytes
+unfoldable pub sized : Format → Bool
+sized f = eqb (8 * f .size) (width (f .slots) + endWidth (f .ending))
+
+-- the bits behind the slots
 unfoldable pub ended : Ending → List Bool → List Bool
 ended bare bs = []
 ended (crc7From k) bs = crc poly7 (drop k bs) ++ (true ∷ [])

@@ -2,3 +2,4 @@
 pub mod Answer
 pub mod Layout
 pub mod Format
+pub mod RoundTrip

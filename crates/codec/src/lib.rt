@@ -3,8 +3,8 @@
 ghost use mathlib.Core.Path.{_≡_};
 ghost use mathlib.Core.List.{List, [], _∷_, _++_};
 ghost use mathlib.Core.Bool.{true};
-ghost use Prim.Native.Nat.{ℕ, _+_, _*_, _/_, _%_, _^_, _≤_};
-ghost use lib.ListN.{length};
+ghost use Prim.Native.Nat.{ℕ, _+_, _*_, _/_, _%_, _^_, _≤_, min};
+ghost use lib.ListN.{length, take, drop};
 ghost use Rattle.crc.specs.Bits.{bits, number, bitsOf, bytes};
 ghost use Rattle.crc.specs.Crc.{crc, poly7};
 
@@ -69,6 +69,24 @@ pub fn put(out: &mut [u8], value: u64)
         i -= 1;
         out[i] = (v & 0xFF) as u8;
         v = v >> 8;
+    }
+}
+
+fn least(a: usize, b: usize) -> usize
+    ensures { λ r. ⌜ r ≡ min a b ⌝ }
+{
+    if a < b { a } else { b }
+}
+
+// Copies as many bytes as both have room for, from the front.
+pub fn copy(out: &mut [u8], s: &[u8])
+    ensures { λ _. ⌜ now (out .exit) ≡ take (length (now (out .entry))) (now (s .entry)) ++ drop (length (now (s .entry))) (now (out .entry)) ⌝ }
+{
+    let n = least(out.len(), s.len());
+    let mut i: usize = 0;
+    while i < n {
+        out[i] = s[i];
+        i += 1;
     }
 }
 

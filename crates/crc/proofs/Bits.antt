@@ -12,7 +12,7 @@ use lib.Dec.{eqb}
 use lib.ListN.{length, getD, take, drop, length-append, length-take, length-drop, take-append-drop}
 use lib.Pow.{pow-pos, pow-add, shr-shr, high, low, field, mod-mod-pow, mod-pow-add}
 use lib.Seq.{take-at, drop-at, length-take-le, take-append-le, drop-append-le}
-use Rattle.crc.specs.Bits.{digit, bit, bits, number, bitsOf, bytes}
+use Rattle.crc.specs.Bits.{digit, bit, bits, number, Bytes, bitsOf, bytes}
 
 -- ---- a number and its bits
 
@@ -104,9 +104,6 @@ number-append (x ∷ xs) ys =
 
 -- ---- bytes and their bits
 
-pub Bytes : List ℕ → Type 0
-Bytes s = (i : ℕ) → getD s i 0 < 256
-
 pub bitsOf-append : (s t : List ℕ) → bitsOf (s ++ t) ≡ bitsOf s ++ bitsOf t
 unfolding bitsOf
 bitsOf-append [] t = refl
@@ -119,7 +116,7 @@ length-bitsOf (b ∷ s) =
     length-append (bits 8 b) (bitsOf s) ∙ ap₂ _+_ (length-bits 8 b) (length-bitsOf s) ∙ omega (arith, mul-suc 8 (length s))
 
 pub bytes-bitsOf : (s : List ℕ) → Bytes s → bytes (length s) (bitsOf s) ≡ s
-unfolding bytes bitsOf Bytes
+unfolding bytes bitsOf
 bytes-bitsOf [] h = refl
 bytes-bitsOf (b ∷ s) h =
     ap₂ (λ (x : List Bool) (y : List Bool). number x ∷ bytes (length s) y)

@@ -76,6 +76,20 @@ pub poly7-up : bits 8 18 ≡ poly7 ++ (false ∷ [])
 unfolding poly7 bits
 poly7-up = refl
 
+-- a turn of the loop over eight turns
+pub turn-more : (p : List Bool) (w k q r : ℕ) (whole : List Bool) → k < 8 → bits w r ≡ shift p (bits w q)
+    → turns p (8 - k) (bits w q) ≡ whole → turns p (8 - (k + 1)) (bits w r) ≡ whole
+unfolding turns
+turn-more p w k q r whole h e inv =
+    let n : 8 - k ≡ suc (8 - (k + 1)) = omega arith in
+    ap (turns p (8 - (k + 1))) e ∙ ap (λ (j : ℕ). turns p j (bits w q)) (sym n) ∙ inv
+
+pub turns-none : (p : List Bool) (k : ℕ) (r whole : List Bool) → 8 ≤ k → turns p (8 - k) r ≡ whole → r ≡ whole
+unfolding turns
+turns-none p k r whole h e =
+    let n : 8 - k ≡ 0 = omega arith in
+    sym (ap (λ (j : ℕ). turns p j r) n) ∙ e
+
 -- zeros behind what is added change nothing
 xor-pad : (xs ys : List Bool) (k : ℕ) → length ys + k ≤ length xs → xs ⊕ (ys ++ replicate k false) ≡ xs ⊕ ys
 unfolding _⊕_

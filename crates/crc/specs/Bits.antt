@@ -1,9 +1,9 @@
 -- Bits in the order sent: the highest bit of a number first, the bytes one after the other.
 use mathlib.Core.Bool.{Bool, true, false}
 use mathlib.Core.List.{List, [], _∷_, _++_}
-use Prim.Native.Nat.{ℕ, zero, suc, _+_, _*_, _/_, _%_, _^_}
+use Prim.Native.Nat.{ℕ, zero, suc, _+_, _*_, _/_, _%_, _^_, _<_}
 use lib.Dec.{eqb}
-use lib.ListN.{length, take, drop}
+use lib.ListN.{length, getD, take, drop}
 
 -- a bit as a number
 abbrev pub digit : Bool → ℕ
@@ -23,6 +23,10 @@ bits (suc w) n = bit n w ∷ bits w n
 unfoldable pub number : List Bool → ℕ
 number [] = 0
 number (b ∷ bs) = digit b * 2 ^ length bs + number bs
+
+-- every element is a byte
+abbrev pub Bytes : List ℕ → Type 0
+Bytes s = (i : ℕ) → getD s i 0 < 256
 
 -- the bits of a run of bytes
 unfoldable pub bitsOf : List ℕ → List Bool

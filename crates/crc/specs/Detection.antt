@@ -25,7 +25,7 @@ same (x ∷ xs) (y ∷ ys) = Bool·beq x y && same xs ys
 unfoldable pub unit : List Bool → Bool
 unit [] = false
 unit (b ∷ []) = b
-unit (a ∷ (b ∷ bs)) = unit (b ∷ bs)
+unit (a ∷ b ∷ bs) = unit (b ∷ bs)
 
 -- x+1 divides x^w + p: p has an odd number of ones
 unfoldable pub odd : List Bool → Bool

@@ -36,13 +36,25 @@ fn shift16(r: u16) -> u16
 fn turn7(r: u8) -> u8
     ensures { λ q. ⌜ bits 8 q ≡ turns (poly7 ++ (false ∷ [])) 8 (bits 8 r) ⌝ }
 {
-    shift7(shift7(shift7(shift7(shift7(shift7(shift7(shift7(r))))))))
+    let mut q = r;
+    let mut k: u8 = 0;
+    while k < 8 {
+        q = shift7(q);
+        k += 1;
+    }
+    q
 }
 
 fn turn16(r: u16) -> u16
     ensures { λ q. ⌜ bits 16 q ≡ turns poly16 8 (bits 16 r) ⌝ }
 {
-    shift16(shift16(shift16(shift16(shift16(shift16(shift16(shift16(r))))))))
+    let mut q = r;
+    let mut k: u8 = 0;
+    while k < 8 {
+        q = shift16(q);
+        k += 1;
+    }
+    q
 }
 
 // The CRC7 of bytes.

@@ -1,0 +1,3 @@
+// The registers without a check: SCR and OCR.
+pub mod ocr;
+pub mod scr;

@@ -1,0 +1,2 @@
+-- What a reader must believe of the CSD: its slots as 01 lists them.
+pub mod Csd

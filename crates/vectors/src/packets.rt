@@ -1,0 +1,39 @@
+// Data packets: encoded from a payload, and decoded.
+use print::byte;
+use print::encoded;
+use print::hex;
+use print::text;
+
+fn packet(payload: &[u8]) {
+    let mut out = [0u8; 514];
+    text(b"packet ");
+    encoded(packet::encode(payload, &mut out), &out);
+}
+
+fn decoded(p: &[u8]) {
+    let mut number: u8 = 0;
+    text(b"packet ");
+    hex(p);
+    text(b" ");
+    hex(packet::decode(p, &mut number));
+    text(b" ");
+    byte(number);
+    text(b"\n");
+}
+
+pub fn run() {
+    packet(&[0x02, 0x01, 0, 0, 0, 0, 0, 0]);
+    packet(&[0x02, 0x05, 0, 0, 0, 0, 0, 0]);
+    packet(&[0u8; 64]);
+    packet(&[0, 0, 0, 0]);
+    packet(&[0, 0, 0, 1]);
+    packet(&[0, 0, 0, 2]);
+    packet(&[0, 0, 0, 3]);
+    packet(&[0x08]);
+    packet(b"");
+    packet(&[0u8; 513]);
+    decoded(&[0, 0, 0, 1, 0x10, 0x21]);
+    decoded(&[0, 0, 0, 1, 0x10, 0x20]);
+    decoded(&[0x08, 0x81, 0x08]);
+    decoded(&[0x81, 0x08]);
+}
