@@ -6,10 +6,10 @@ use print::hex;
 use print::refused;
 use print::text;
 use print::word;
-use response::R1Read;
-use response::R3Read;
-use response::R6Read;
-use response::R7Read;
+use reply::R1Read;
+use reply::R3Read;
+use reply::R6Read;
+use reply::R7Read;
 
 fn r1(index: u8, status: u32) {
     let mut out = [0u8; 17];
@@ -25,7 +25,7 @@ fn r1_decoded(index: u8, s: &[u8]) {
     text(b"R1 ");
     hex(s);
     text(b" ");
-    match response::decode_r1(index, s) {
+    match reply::decode_r1(index, s) {
         R1Read::Status(status) => {
             word(status);
             text(b"\n");
@@ -44,7 +44,7 @@ fn r3_decoded(s: &[u8]) {
     text(b"R3 ");
     hex(s);
     text(b" ");
-    match response::decode_r3(s) {
+    match reply::decode_r3(s) {
         R3Read::Ocr(ocr) => {
             word(ocr);
             text(b"\n");
@@ -61,7 +61,7 @@ fn r6(rca: u16, status: u32) {
         &out,
     );
     text(b"  decoded ");
-    match response::decode_r6(&out[0..6]) {
+    match reply::decode_r6(&out[0..6]) {
         R6Read::Published { rca, status } => {
             half(rca);
             text(b" ");
@@ -82,7 +82,7 @@ fn r7_decoded(s: &[u8]) {
     text(b"R7 ");
     hex(s);
     text(b" ");
-    match response::decode_r7(s) {
+    match reply::decode_r7(s) {
         R7Read::Echo { voltage, pattern } => {
             byte(voltage);
             text(b" ");
@@ -98,7 +98,7 @@ fn r2_decoded(s: &[u8]) {
     text(b"R2 ");
     hex(s);
     text(b" ");
-    hex(response::decode_r2(s, &mut number));
+    hex(reply::decode_r2(s, &mut number));
     text(b" ");
     byte(number);
     text(b"\n");

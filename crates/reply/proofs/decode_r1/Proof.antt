@@ -7,9 +7,9 @@ use borrow.Author.Needs.{needs}
 use Rattle.codec.specs.Answer.{done}
 use Rattle.codec.specs.Layout.{field, width, judged}
 use Rattle.codec.proofs.Words.{within}
 use Rattle.response.proofs.Shorts.{opened-short}
-use Rattle.response.proofs.decode_r1.Statement.{statement}
-use Rattle.response.proofs.decode_r1.Tie as tie
+use Rattle.reply.proofs.decode_r1.Statement.{statement}
+use Rattle.reply.proofs.decode_r1.Tie as tie
 
 returned : tie.Need-returns
 unfolding width judged within

@@ -4,9 +4,9 @@ use mathlib.Core.List.{List}
 use Prim.Native.Nat.{ℕ}
 use borrow.Author.Needs.{needs}
 use Rattle.codec.specs.Answer.{Outcome, why, part}
 use Rattle.response.proofs.Registers.{register-size, register-first, register-last, register-done}
-use Rattle.response.proofs.decode_r2.Statement.{statement}
-use Rattle.response.proofs.decode_r2.Tie as tie
+use Rattle.reply.proofs.decode_r2.Statement.{statement}
+use Rattle.reply.proofs.decode_r2.Tie as tie
 
 -- the number and the part of an answer
 both : (o q : Outcome (List ℕ)) → o ≡ q → (why q ≡ why o) × (part q ≡ part o)
