@@ -20,6 +20,12 @@ fn sixteen(name: &[u8], s: &[u8]) {
     text(b"\n");
 }
 
+// 512 bytes of one value.
+fn filled(name: &[u8], b: u8) {
+    let block = [b; 512];
+    sixteen(name, &block);
+}
+
 pub fn run() {
     seven(&[0x40, 0, 0, 0, 0]);
     seven(&[0x51, 0, 0, 0, 0]);
@@ -27,8 +33,8 @@ pub fn run() {
     seven(b"");
     sixteen(b"empty", b"");
     sixteen(b"123456789", b"123456789");
-    sixteen(b"512 x FF", &[0xFFu8; 512]);
-    sixteen(b"512 x 00", &[0u8; 512]);
-    sixteen(b"512 x AA", &[0xAAu8; 512]);
-    sixteen(b"512 x 55", &[0x55u8; 512]);
+    filled(b"512 x FF", 0xFF);
+    filled(b"512 x 00", 0);
+    filled(b"512 x AA", 0xAA);
+    filled(b"512 x 55", 0x55);
 }

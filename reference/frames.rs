@@ -1,0 +1,109 @@
+//! Turns a readable description of a history (standard input) into replay lines.
+//!
+//! ```text
+//! 17 7E00              command 17, argument in hex (0 if left out); A41 is 41
+//! copy 9 17 7E00       the same frame damaged: bit 9 flipped, bit 0 is sent first
+//! copy 9,11 17 7E00    several bits
+//! block 5A             512 bytes 5Ah and their check
+//! bad 9 5A             the same packet with bit 9 flipped
+//! take                 also: over
+//! 66 * take            sixty-six times
+//! raw cmd\t4000        this line; \t \r \0 \xFF and \\ stand for bytes
+//! ```
+//! Text behind # and empty lines are skipped. With the argument `without-copies`, so are
+//! the copies.
+
+mod card;
+
+use card::{crc16, crc7, BLOCK, PACKET};
+use std::io::{self, Write};
+
+fn main() -> Result<(), String> {
+    let without_copies = std::env::args().nth(1).as_deref() == Some("without-copies");
+    let mut output = Vec::new();
+    for (number, line) in io::stdin().lines().enumerate() {
+        let line = line.map_err(|error| error.to_string())?;
+        let text = line.split('#').next().unwrap_or("").trim();
+        if text.is_empty() || without_copies && text.starts_with("copy ") {
+            continue;
+        }
+        let (count, item) = match text.split_once(" * ") {
+            Some((count, item)) => (count.parse().map_err(|_| format!("line {}: {line}", number + 1))?, item),
+            None => (1, text),
+        };
+        let bytes = replay_line(item).ok_or_else(|| format!("line {}: {line}", number + 1))?;
+        for _ in 0..count {
+            output.extend_from_slice(&bytes);
+            output.push(b'\n');
+        }
+    }
+    io::stdout().write_all(&output).map_err(|error| error.to_string())
+}
+
+fn replay_line(item: &str) -> Option<Vec<u8>> {
+    if let Some(text) = item.strip_prefix("raw") {
+        return unescape(text.strip_prefix(' ').unwrap_or(text));
+    }
+    let words: Vec<&str> = item.split_whitespace().collect();
+    match words.as_slice() {
+        ["take" | "over"] => Some(item.into()),
+        ["block", byte] => Some(line("blk", &packet(byte)?)),
+        ["bad", bits, byte] => Some(line("blk", &flip(packet(byte)?, bits)?)),
+        ["copy", bits, index] => Some(line("cmd", &flip(frame(index, "0")?, bits)?)),
+        ["copy", bits, index, argument] => Some(line("cmd", &flip(frame(index, argument)?, bits)?)),
+        [index] => Some(line("cmd", &frame(index, "0")?)),
+        [index, argument] => Some(line("cmd", &frame(index, argument)?)),
+        _ => None,
+    }
+}
+
+fn frame(index: &str, argument: &str) -> Option<[u8; 6]> {
+    let index: u8 = index.trim_start_matches('A').parse().ok().filter(|&index| index < 64)?;
+    let [a, b, c, d] = u32::from_str_radix(argument, 16).ok()?.to_be_bytes();
+    let mut frame = [0x40 | index, a, b, c, d, 0];
+    frame[5] = crc7(&frame[..5]) << 1 | 1;
+    Some(frame)
+}
+
+fn packet(byte: &str) -> Option<[u8; PACKET]> {
+    let mut packet = [u8::from_str_radix(byte, 16).ok()?; PACKET];
+    let check = crc16(&packet[..BLOCK]);
+    packet[BLOCK..].copy_from_slice(&check.to_be_bytes());
+    Some(packet)
+}
+
+fn flip<const N: usize>(mut bytes: [u8; N], bits: &str) -> Option<[u8; N]> {
+    for bit in bits.split(',') {
+        let bit: usize = bit.parse().ok()?;
+        *bytes.get_mut(bit / 8)? ^= 0x80 >> (bit % 8);
+    }
+    Some(bytes)
+}
+
+fn line(word: &str, bytes: &[u8]) -> Vec<u8> {
+    let digits: String = bytes.iter().map(|byte| format!("{byte:02X}")).collect();
+    format!("{word}\t{digits}").into_bytes()
+}
+
+fn unescape(text: &str) -> Option<Vec<u8>> {
+    let mut bytes = Vec::new();
+    let mut rest = text.bytes();
+    while let Some(byte) = rest.next() {
+        bytes.push(match byte {
+            b'\\' => match rest.next()? {
+                b't' => b'\t',
+                b'r' => b'\r',
+                b'0' => 0,
+                b'\\' => b'\\',
+                b's' => b' ',
+                b'x' => {
+                    let digits = [rest.next()?, rest.next()?];
+                    u8::from_str_radix(std::str::from_utf8(&digits).ok()?, 16).ok()?
+                }
+                _ => return None,
+            },
+            _ => byte,
+        });
+    }
+    Some(bytes)
+}
