@@ -3,7 +3,7 @@ ghost use mathlib.Core.Path.{_≡_};
 ghost use mathlib.Core.List.{_++_};
 ghost use Prim.Native.Nat.{_/_, _^_};
 ghost use lib.ListN.{take, drop};
-ghost use Rattle.crc.specs.Bits.{bits};
+ghost use Rattle.crc.specs.Bits.{bits, bytes};
 ghost use Rattle.codec.specs.Answer.{effect};
 ghost use Rattle.codec.specs.Layout.{fits, write, read};
 ghost use Rattle.codec.specs.Format.{encode, decode};
@@ -195,6 +195,13 @@ pub fn encode(c: Csd, out: &mut [u8]) -> Encoded
     ensures { λ r. ⌜ effect r (now (out .exit)) ≡ encode csd (csdValues c) (now (out .entry)) ⌝ }
 {
     registers::content::emit(fit(c), words(c), out)
+}
+
+// The content that an R2 carries.
+pub fn fifteen(c: Csd) -> [u8; 15]
+    ensures { λ r. ⌜ r ≡ bytes 15 (write (csd .slots) (csdValues c)) ⌝ }
+{
+    registers::content::fifteen(words(c))
 }
 
 // The fields of two words of content.

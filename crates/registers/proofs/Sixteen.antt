@@ -7,7 +7,7 @@ use native.Mathlib.Nat.{mod-mod}
 use native.Mathlib.Omega.{arith}
 use borrow.Author.Tests.{eq-eqb, ne-eqb, eqb-true, eqb-false, lt-ltb, le-ltb}
 use lib.Dec.{eqb, lit≤}
-use lib.ListN.{length, getD, take, drop, set, length-append, length-drop, length-set}
+use lib.ListN.{length, getD, take, drop, set, length-append, length-drop, length-set, drop-of-length-le}
 use lib.Pow.{mod-mod-pow}
 use lib.Seq.{take-at, drop-at, set-at, drop-cons, drop-drop, length-take-le, take-append-le, drop-append-le}
 use Rattle.crc.specs.Bits.{bits, number, bitsOf, bytes}
@@ -121,6 +121,22 @@ module _ (out p q : List ℕ) (first rest c : ℕ) (room : 17 ≤ length out) wh
     sealed h e =
         ap (λ (l : List ℕ). record { answer = done 16; buffer = l }) (whole h e)
         ∙ ap (λ (k : ℕ). record { answer = done k; buffer = sixteen first rest ++ drop k out }) (sym (length-sixteen first rest))
+
+-- two words stored one behind the other in fifteen bytes
+pub fifteen-stored : (out p q : List ℕ) (first rest : ℕ) → length out ≡ 15
+    → p ≡ bytes (length (take 8 out)) (bits (8 * length (take 8 out)) first)
+    → q ≡ bytes (length (take 7 (drop 8 (p ++ drop 8 out)))) (bits (8 * length (take 7 (drop 8 (p ++ drop 8 out)))) rest)
+    → take 8 (p ++ drop 8 out) ++ (q ++ drop 7 (drop 8 (p ++ drop 8 out))) ≡ bytes 15 (content first rest)
+fifteen-stored out p q first rest h hp hq =
+    let ep : p ≡ bytes 8 (bits 64 first) = filled 8 first p (take 8 out) (length-take-le 8 out (omega arith)) hp in
+    let lp : length p ≡ 8 = ap length ep ∙ length-bytes 8 (bits 64 first) in
+    let past : drop 8 (p ++ drop 8 out) ≡ drop 8 out = drop-at p (drop 8 out) 8 lp in
+    let eq : q ≡ bytes 7 (bits 56 rest) = filled 7 rest q (take 7 (drop 8 (p ++ drop 8 out)))
+    (ap (λ (l : List ℕ). length (take 7 l)) past ∙ length-take-le 7 (drop 8 out) (omega (arith, length-drop 8 out))) hq in
+    ap₂ (λ (x y : List ℕ). x ++ (q ++ y)) (take-at p (drop 8 out) 8 lp)
+    (ap (drop 7) past ∙ drop-drop 7 8 out ∙ drop-of-length-le out {i = 15} (omega arith))
+    ∙ ap₂ (λ (x y : List ℕ). x ++ y) ep (append-nil q ∙ eq)
+    ∙ sym (bytes-content first rest)
 
 -- ---- what is emitted
 

@@ -1,5 +1,6 @@
 // CID: the card identification register.
 ghost use mathlib.Core.Path.{_≡_};
+ghost use Rattle.crc.specs.Bits.{bytes};
 ghost use Rattle.codec.specs.Answer.{effect};
 ghost use Rattle.codec.specs.Layout.{fits, write, read};
 ghost use Rattle.codec.specs.Format.{encode, decode};
@@ -54,6 +55,13 @@ pub fn encode(c: Cid, out: &mut [u8]) -> Encoded
     ensures { λ r. ⌜ effect r (now (out .exit)) ≡ encode cid (cidValues c) (now (out .entry)) ⌝ }
 {
     crate::content::emit(fit(c), words(c), out)
+}
+
+// The content that an R2 carries.
+pub fn fifteen(c: Cid) -> [u8; 15]
+    ensures { λ r. ⌜ r ≡ bytes 15 (write (cid .slots) (cidValues c)) ⌝ }
+{
+    crate::content::fifteen(words(c))
 }
 
 // The fields of two words of content.

@@ -1,9 +1,9 @@
 // What the registers share: a flag or a byte as a word, and the sixteen bytes of CID and CSD, which are two words of
 // content and a byte of check and end bit.
 ghost use mathlib.Core.Path.{_≡_};
-ghost use Rattle.crc.specs.Bits.{digit};
+ghost use Rattle.crc.specs.Bits.{digit, bytes};
 ghost use Rattle.codec.specs.Answer.{effect};
-ghost use Rattle.registers.specs.Content.{emitted, verdict};
+ghost use Rattle.registers.specs.Content.{content, emitted, verdict};
 use codec::Encoded;
 
 // 64 and 56 bits of content.
@@ -38,6 +38,16 @@ pub fn emit(fits: bool, w: Words, out: &mut [u8]) -> Encoded
     codec::put(&mut out[8..15], w.rest);
     out[15] = codec::seal(&out[0..15]);
     Encoded::Done(16)
+}
+
+// The fifteen bytes of two words.
+pub fn fifteen(w: Words) -> [u8; 15]
+    ensures { λ r. ⌜ r ≡ bytes 15 (content (w .first) (w .rest)) ⌝ }
+{
+    let mut s: [u8; 15] = [0; 15];
+    codec::put(&mut s[0..8], w.first);
+    codec::put(&mut s[8..15], w.rest);
+    s
 }
 
 // Rows 1 and 7, or 0 where size, check and end bit are right.

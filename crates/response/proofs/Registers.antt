@@ -34,7 +34,7 @@ write-bytes zero (v ∷ vs) h = absurd (omega arith)
 write-bytes (suc n) [] h = absurd (omega arith)
 write-bytes (suc n) (v ∷ vs) h = ap (λ (r : List Bool). bits 8 v ++ r) (write-bytes n vs (omega arith))
 
-fits-bytes : (n : ℕ) (vs : List ℕ) → length vs ≡ n → Bytes vs → fits (replicate n (field 8)) vs ≡ true
+pub fits-bytes : (n : ℕ) (vs : List ℕ) → length vs ≡ n → Bytes vs → fits (replicate n (field 8)) vs ≡ true
 unfolding fits
 fits-bytes zero [] h b = refl
 fits-bytes zero (v ∷ vs) h b = absurd (omega arith)

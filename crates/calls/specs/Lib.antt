@@ -1,0 +1,2 @@
+-- What a call leaves, as the model's step has it.
+pub mod Seen

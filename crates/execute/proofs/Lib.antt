@@ -1,0 +1,2 @@
+-- Laws of the voltage window.
+pub mod Window

@@ -1,0 +1,2 @@
+-- Parts of commands.
+pub mod Erased

@@ -1,0 +1,2 @@
+-- Steps of this crate's loops.
+pub mod Sweep

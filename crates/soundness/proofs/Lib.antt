@@ -1,0 +1,3 @@
+-- Laws that belong to no one function: lists walked by a loop, and lists of tests.
+pub mod Walks
+pub mod Tests
