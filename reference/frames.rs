@@ -9,6 +9,8 @@
 //! take                 also: over
 //! 66 * take            sixty-six times
 //! raw cmd\t4000        this line; \t \r \0 \xFF and \\ stand for bytes
+//! fill 1034 blk\t      this line, filled up with zeros to 1,034 bytes
+//! end                  the newline of the line before is left out
 //! ```
 //! Text behind # and empty lines are skipped. With the argument `without-copies`, so are
 //! the copies.
@@ -27,6 +29,10 @@ fn main() -> Result<(), String> {
         if text.is_empty() || without_copies && text.starts_with("copy ") {
             continue;
         }
+        if text == "end" {
+            output.pop();
+            continue;
+        }
         let (count, item) = match text.split_once(" * ") {
             Some((count, item)) => (count.parse().map_err(|_| format!("line {}: {line}", number + 1))?, item),
             None => (1, text),
@@ -43,6 +49,11 @@ fn main() -> Result<(), String> {
 fn replay_line(item: &str) -> Option<Vec<u8>> {
     if let Some(text) = item.strip_prefix("raw") {
         return unescape(text.strip_prefix(' ').unwrap_or(text));
+    }
+    if let Some((count, text)) = item.strip_prefix("fill ").and_then(|rest| rest.split_once(' ')) {
+        let mut bytes = unescape(text)?;
+        bytes.resize(count.parse().ok()?, b'0');
+        return Some(bytes);
     }
     let words: Vec<&str> = item.split_whitespace().collect();
     match words.as_slice() {

@@ -1,0 +1,2 @@
+-- Where power up and busy over lead.
+pub mod Calls

@@ -1,0 +1,91 @@
+// Power up, and busy over. The record by value and back; memory is lent.
+ghost use mathlib.Core.Path.{_≡_};
+ghost use mathlib.Core.List.{[]};
+ghost use Rattle.model.specs.Step.{fresh, powerUp, busyOver};
+ghost use Rattle.calls.specs.Seen.{returned, stepped};
+use calls::Stepped;
+use calls::answered;
+use calls::refused;
+use model::answer::Answer;
+use model::card::Bus;
+use model::card::Card;
+use model::card::Core;
+use model::card::Erase;
+use model::card::Line;
+use model::card::Mark;
+use model::card::State;
+use model::settings::Settings;
+use transfer::Opening;
+use update::with_state;
+
+// The record of a power-up.
+fn fresh(settings: Settings) -> Core
+    ensures { λ r. ⌜ r ≡ fresh settings ⌝ }
+{
+    let bus = Bus {
+        state: State::Idle,
+        rca: 0,
+        published: 0,
+        polls: settings.polls,
+        app: false,
+    };
+    let erase = Erase {
+        first: Mark::Unset,
+        second: Mark::Unset,
+    };
+    let marks: [u8; 256] = [0; 256];
+    Core {
+        settings: settings,
+        csd: soundness::csd_of(settings),
+        bus: bus,
+        kept: status::no_bits(),
+        erase: erase,
+        length: 512,
+        written: 0,
+        marks: marks,
+    }
+}
+
+// Power up. The record that was there stays where the call is refused.
+pub fn power_up(card: Card, settings: Settings, memory: &[u8]) -> Stepped
+    ensures { λ r. ⌜ returned r (now (memory .entry)) [] ≡ stepped card (now (memory .entry)) (powerUp settings) ⌝ }
+{
+    if memory.len() as u64 != settings.blocks as u64 * 512 {
+        return refused(card, 3);
+    }
+    if !soundness::allowed(settings) {
+        return refused(card, 6);
+    }
+    let next = Card {
+        core: fresh(settings),
+        line: Line {
+            com_crc_error: false,
+        },
+    };
+    Stepped {
+        answer: Answer::Done,
+        card: next,
+    }
+}
+
+// Busy over.
+pub fn busy_over(card: Card, memory: &[u8]) -> Stepped
+    ensures { λ r. ⌜ returned r (now (memory .entry)) [] ≡ stepped card (now (memory .entry)) busyOver ⌝ }
+{
+    let c = card.core;
+    if soundness::unsound(c) {
+        return refused(card, 2);
+    }
+    if memory.len() as u64 != c.settings.blocks as u64 * 512 {
+        return refused(card, 3);
+    }
+    let bus = c.bus;
+    let state = bus.state;
+    let open = transfer::open(state);
+    match open {
+        Opening::Busy(next) => { answered(card, with_state(c, next), Answer::Done) }
+        Opening::Read(_) => refused(card, 5),
+        Opening::Write(_) => refused(card, 5),
+        Opening::Nothing => refused(card, 5),
+    }
+}

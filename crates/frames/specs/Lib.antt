@@ -1,0 +1,2 @@
+-- What the call asks of what a frame comes to.
+pub mod Within

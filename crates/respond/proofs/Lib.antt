@@ -1,0 +1,2 @@
+-- Responses that fit the output buffer.
+pub mod Sending

@@ -1,0 +1,2 @@
+-- What a message stands for.
+pub mod Sent

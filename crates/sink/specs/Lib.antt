@@ -1,0 +1,2 @@
+-- What a block in asks of the record and the slices.
+pub mod Stores

@@ -1,0 +1,149 @@
+// Take a block from an open read transfer: a block of memory, the marks, or a register.
+ghost use mathlib.Core.Path.{_≡_};
+ghost use mathlib.Core.Bool.{true, false, cond};
+ghost use mathlib.Core.List.{List};
+ghost use Prim.Native.Nat.{ℕ, _+_, _≤_};
+ghost use lib.ListN.{length};
+ghost use Rattle.model.specs.declared.card.Source.the-variants.{Blocks};
+ghost use Rattle.model.specs.declared.card.State.the-variants.{Data, Tran};
+ghost use Rattle.model.specs.Record.{withState};
+ghost use Rattle.model.specs.Frame.{block, keep, quiet};
+ghost use Rattle.model.specs.Execute.{same};
+ghost use Rattle.model.specs.Data.{said, takeFrom, word32};
+ghost use Rattle.calls.specs.Seen.{returned};
+ghost use Rattle.transfer.specs.Turned.{turned};
+ghost use Rattle.source.specs.Takes.{Takes};
+use calls::Stepped;
+use calls::answered;
+use codec::Encoded;
+use model::answer::Answer;
+use model::card::Card;
+use model::card::Core;
+use model::card::Source;
+use model::card::State;
+use status::address_error;
+use status::out_of_range;
+use update::raise;
+use update::with_state;
+
+// A payload straight into the output buffer, with its check.
+fn send(card: Card, core: Core, payload: &[u8], out: &mut [u8]) -> Stepped
+    requires { ⌜ (1 ≤ length (now payload)) × (length (now payload) ≤ 512) × (514 ≤ length (now out)) ⌝ }
+    ensures { λ r.
+        ⌜ ((memory : List ℕ) → returned r memory (now (out .exit)) ≡ turned card memory (now (out .entry)) (said core (block (now (payload .entry))) same)) ⌝ }
+{
+    let sent = packet::encode(payload, out);
+    match sent {
+        Encoded::Done(n) => answered(card, core, Answer::Sent(n)),
+        Encoded::Refused(k) => answered(card, core, Answer::Refused(k)),
+    }
+}
+
+fn send_word(card: Card, word: u32, out: &mut [u8]) -> Stepped
+    requires { ⌜ 514 ≤ length (now out) ⌝ }
+    ensures { λ r.
+        ⌜ ((memory : List ℕ) → returned r memory (now (out .exit)) ≡ turned card memory (now (out .entry)) (said (withState (card .core) Tran) (block (word32 word)) same)) ⌝ }
+{
+    let core = card.core;
+    let mut payload: [u8; 4] = [0; 4];
+    codec::put(&mut payload, word as u64);
+    send(card, with_state(core, State::Tran), &payload, out)
+}
+
+// A held transfer is silent until it is ended.
+fn hold(core: Core, multiple: bool, address: u32) -> Core
+    ensures { λ r. ⌜ r ≡ withState core (Data (Blocks multiple address true)) ⌝ }
+{
+    let source = Source::Blocks {
+        multiple: multiple,
+        address: address,
+        held: true,
+    };
+    with_state(core, State::Data(source))
+}
+
+// 18 goes on behind the block, 17 returns to tran.
+fn behind(core: Core, multiple: bool, address: u32) -> Core
+    ensures { λ r. ⌜ r ≡ withState core (cond multiple (Data (Blocks true address false)) Tran) ⌝ }
+{
+    if multiple {
+        let source = Source::Blocks {
+            multiple: true,
+            address: address,
+            held: false,
+        };
+        return with_state(core, State::Data(source));
+    }
+    with_state(core, State::Tran)
+}
+
+// 17 and 18.
+fn take_blocks(
+    card: Card,
+    memory: &[u8],
+    out: &mut [u8],
+    multiple: bool,
+    address: u32,
+    held: bool,
+) -> Stepped
+    requires { ⌜ Takes (card .core) (now memory) (now out) ⌝ }
+    ensures { λ r.
+        ⌜ returned r (now (memory .entry)) (now (out .exit))
+        ≡ turned card (now (memory .entry)) (now (out .entry)) (takeFrom (Blocks multiple address held) (card .core) (now (memory .entry))) ⌝ }
+{
+    let c = card.core;
+    if held {
+        return answered(card, c, Answer::Silence);
+    }
+    if c.settings.blocks * 512 <= address {
+        return answered(
+            card,
+            hold(raise(c, out_of_range()), multiple, address),
+            Answer::Silence,
+        );
+    }
+    let length = c.length as u32;
+    if address % 512 + length > 512 {
+        return answered(
+            card,
+            hold(raise(c, address_error()), multiple, address),
+            Answer::Silence,
+        );
+    }
+    let start = address as usize;
+    let end = start + length as usize;
+    send(
+        card,
+        behind(c, multiple, address + length),
+        &memory[start..end],
+        out,
+    )
+}
+
+pub(crate) fn take_from(source: Source, card: Card, memory: &[u8], out: &mut [u8]) -> Stepped
+    requires { ⌜ Takes (card .core) (now memory) (now out) ⌝ }
+    ensures { λ r.
+        ⌜ returned r (now (memory .entry)) (now (out .exit))
+        ≡ turned card (now (memory .entry)) (now (out .entry)) (takeFrom source (card .core) (now (memory .entry))) ⌝ }
+{
+    let c = card.core;
+    match source {
+        Source::Blocks {
+            multiple,
+            address,
+            held,
+        } => take_blocks(card, memory, out, multiple, address, held),
+        Source::WriteProtect { address } => {
+            send_word(card, protection::mark_word(c, address), out)
+        }
+        Source::SdStatus => {
+            let payload: [u8; 64] = [0; 64];
+            send(card, with_state(c, State::Tran), &payload, out)
+        }
+        Source::WrittenBlocks => send_word(card, c.written, out),
+        Source::Scr => {
+            let payload: [u8; 8] = [2, 1, 0, 0, 0, 0, 0, 0];
+            send(card, with_state(c, State::Tran), &payload, out)
+        }
+    }
+}
