@@ -1,6 +1,6 @@
 #!/usr/bin/env python3
-"""Works out what the programs vectors, vectors_responses and vectors_registers print, by polynomial long division and by the bit tables of the standard,
-with nothing shared with the proved code. Usage: tools/vectors.py (writes the three programs' stdout files)
+"""Works out what the programs vectors and vectors_* print, by polynomial long division and by the bit tables of the standard,
+with nothing shared with the proved code. Usage: tools/vectors.py (writes the five programs' stdout files)
 
 The frames and registers that the standard and its readers publish stand below as they are printed
 there; each is held against what is worked out here before a line is written."""
@@ -145,7 +145,7 @@ def short_status(status):
     return (status >> 23 & 1) << 15 | (status >> 22 & 1) << 14 | (status >> 19 & 1) << 13 | status & 0x1FFF
 
 
-def responses():
+def statuses():
     for (index, status), known in STATUSES.items():
         assert show(response(index, status)) == known, (index, status)
         out.append(f"R1 {index:02X} {status:08X} {known}")
@@ -153,6 +153,9 @@ def responses():
     for index, text in ((17, "110000090067"), (18, "110000090067"), (17, "110000090066"), (13, "0D00000E005D"),
                         (81, "510000000055")):
         out.append(r1_decoded(index, text))
+
+
+def responses():
     register = closed(bytes(15))
     whole = b"\x3F" + register
     assert show(whole) == "3F" + "00" * 15 + "01"
@@ -199,6 +202,9 @@ def registers():
     for _ in range(2):  # PNM of 41 bits, MDT of 13
         out.append("CID refused 08")
         out.append("refused 07")
+
+
+def configuration():
     out.append("SCR 0201000000000000")
     out.append("SCR 0205000000000000")
     out.append("SCR refused 08")
@@ -234,7 +240,8 @@ def sizes():
         out.append(f"blocks {n:08X} " + (f"C_SIZE {pair[0]:04X} C_SIZE_MULT {pair[1]:02X}" if pair else "no pair"))
 
 
-PROGRAMS = {"vectors": (checks, commands, packets), "vectors_responses": (responses,), "vectors_registers": (registers, sizes)}
+PROGRAMS = {"vectors": (checks, packets), "vectors_commands": (commands, statuses), "vectors_responses": (responses,),
+            "vectors_registers": (registers,), "vectors_configuration": (configuration, sizes)}
 CRATES = pathlib.Path(__file__).resolve().parent.parent / "crates"
 for name, parts in PROGRAMS.items():
     out.clear()

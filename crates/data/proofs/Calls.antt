@@ -9,19 +9,18 @@ use lib.ListN.{length}
 use Rattle.model.specs.declared.answer.Answer.the-variants.{Done}
 use Rattle.model.specs.declared.settings.Settings.{Settings}
 use Rattle.model.specs.declared.card.State.{State}
-use Rattle.model.specs.declared.card.Core.{Core}
 use Rattle.model.specs.declared.card.Card.{Card}
 use Rattle.model.specs.Settings.{capacity, allowed}
 use Rattle.model.specs.Soundness.{unsound}
 use Rattle.model.specs.Data.{overFrom}
-use Rattle.model.specs.Step.{unless, refuse, show, fresh, start, powerUp, busyOver, step, poweredUp, overed, leads}
+use Rattle.model.specs.Step.{unless, refuse, show, start, powerUp, busyOver, step, poweredUp, overed, leads}
 use Rattle.calls.specs.declared.Stepped.{Stepped}
 use Rattle.calls.specs.Seen.{returned, seen}
 use Rattle.transfer.proofs.Calls.{world}
 
 -- the answer of a power-up, and its record
-abbrev pub started : Core → Stepped
-started c = record { answer = Done; card = record { core = c; line = record { «com_crc_error» = false } } }
+abbrev pub started : Card → Stepped
+started k = record { answer = Done; card = k }
 
 module _ (card : Card) (memory : List ℕ) (s : Settings) where
   pub power-3 : (length memory ≡ capacity s → ⊥) → step (world card memory) (powerUp s) ≡ refuse (world card memory) [] 3
@@ -33,9 +32,9 @@ module _ (card : Card) (memory : List ℕ) (s : Settings) where
     unfolding step poweredUp unless
     power-6 n = rw (eq-eqb (length memory) (capacity s) full, n)
 
-    pub power-on : (c : Core) → allowed s ≡ true → c ≡ fresh s → returned (started c) memory [] ≡ seen (step (world card memory) (powerUp s))
-    unfolding step poweredUp unless start
-    power-on c y e = rw (eq-eqb (length memory) (capacity s) full, y) (ap (λ (x : Core). returned (started x) memory []) e)
+    pub power-on : (k : Card) → allowed s ≡ true → k ≡ start s → returned (started k) memory [] ≡ seen (step (world card memory) (powerUp s))
+    unfolding step poweredUp unless
+    power-on k y e = rw (eq-eqb (length memory) (capacity s) full, y) (ap (λ (x : Card). returned (started x) memory []) e)
 
 module _ (card : Card) (memory : List ℕ) (sound : unsound (card .core) ≡ false) (full : length memory ≡ capacity (card .core .settings)) where
   pub over-5 : leads (card .core .bus .state) ≡ none → step (world card memory) busyOver ≡ refuse (world card memory) [] 5

@@ -1,7 +1,7 @@
 // Power up, and busy over. The record by value and back; memory is lent.
 ghost use mathlib.Core.Path.{_≡_};
 ghost use mathlib.Core.List.{[]};
-ghost use Rattle.model.specs.Step.{fresh, powerUp, busyOver};
+ghost use Rattle.model.specs.Step.{fresh, start, powerUp, busyOver};
 ghost use Rattle.calls.specs.Seen.{returned, stepped};
 use calls::Stepped;
 use calls::answered;
@@ -18,7 +18,7 @@ use model::settings::Settings;
 use transfer::Opening;
 use update::with_state;
 
-// The record of a power-up.
+// What commands see of it.
 fn fresh(settings: Settings) -> Core
     ensures { λ r. ⌜ r ≡ fresh settings ⌝ }
 {
@@ -46,6 +46,18 @@ fn fresh(settings: Settings) -> Core
     }
 }
 
+// The record that a history starts with.
+pub fn start(settings: Settings) -> Card
+    ensures { λ r. ⌜ r ≡ start settings ⌝ }
+{
+    Card {
+        core: fresh(settings),
+        line: Line {
+            com_crc_error: false,
+        },
+    }
+}
+
 // Power up. The record that was there stays where the call is refused.
 pub fn power_up(card: Card, settings: Settings, memory: &[u8]) -> Stepped
     ensures { λ r. ⌜ returned r (now (memory .entry)) [] ≡ stepped card (now (memory .entry)) (powerUp settings) ⌝ }
@@ -56,15 +68,9 @@ pub fn power_up(card: Card, settings: Settings, memory: &[u8]) -> Stepped
     if !soundness::allowed(settings) {
         return refused(card, 6);
     }
-    let next = Card {
-        core: fresh(settings),
-        line: Line {
-            com_crc_error: false,
-        },
-    };
     Stepped {
         answer: Answer::Done,
-        card: next,
+        card: start(settings),
     }
 }
 

@@ -6,23 +6,23 @@ ghost use Rattle.model.specs.Execute.{eraseStart, eraseEnd, erase, sweepBits};
 ghost use Rattle.commands.specs.Ran.{ran};
 ghost use Rattle.execute.specs.Erased.{erased};
 use commands::checks::address_check;
-use commands::ran::answered;
 use commands::checks::unless;
+use commands::moves::moved;
 use commands::ran::Ran;
 use commands::ran::Reply;
 use commands::ran::Sweep;
-use status::erase_param;
-use status::erase_seq_error;
-use status::no_bits;
-use status::wp_erase_skip;
-use update::drop_erase;
-use commands::moves::moved;
-use update::with_erase;
+use commands::ran::answered;
 use model::card::Core;
 use model::card::Erase;
 use model::card::Kept;
 use model::card::Mark;
 use model::command::Command;
+use status::erase_param;
+use status::erase_seq_error;
+use status::no_bits;
+use status::wp_erase_skip;
+use update::drop_erase;
+use update::with_erase;
 
 fn is_set(mark: Mark) -> bool
     ensures { λ r. ⌜ r ≡ isSet mark ⌝ }

@@ -19,7 +19,7 @@ use Rattle.model.specs.declared.card.Sink.{Sink}
 use Rattle.model.specs.declared.card.Core.{Core}
 use Rattle.model.specs.Execute.{Effect, same}
 use Rattle.model.specs.Table.{nameOf, ina, code}
-use Rattle.model.specs.Frame.{Flag, keep, set, Message, silence, Turn, quiet, byCheck, receive}
+use Rattle.model.specs.Frame.{Flag, keep, Message, silence, Turn, quiet, byCheck, receive}
 use Rattle.model.specs.Data.{blockInto, ACCEPTED, REJECTED}
 use Rattle.model.specs.Step.{blockIn, World, answered, Result, refuse, unless, wire, replyOf, affected, show, framed, sinkOf, given, step, Sound}
 use Rattle.model.specs.History.{SameWorld, NotStored, Unheard}
@@ -40,9 +40,9 @@ quiet-quiet c f = record { core = refl; message = refl; effect = refl }
 check-quiet : (k : FrameCheck) (c : Core) (fields : List ℕ) → (k ≡ Good → ⊥) → Quiet c (byCheck k c fields)
 unfolding byCheck
 check-quiet Good c fields h = absurd (h refl)
-check-quiet Size c fields h = quiet-quiet c keep
-check-quiet Start c fields h = quiet-quiet c keep
-check-quiet Check c fields h = quiet-quiet c set
+check-quiet Size c fields h = quiet-quiet c _
+check-quiet Start c fields h = quiet-quiet c _
+check-quiet Check c fields h = quiet-quiet c _
 
 receive-quiet : (c : Core) (frame : List ℕ) → (frameCheck frame ≡ Good → ⊥) → Quiet c (receive c frame)
 unfolding receive

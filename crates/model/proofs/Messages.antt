@@ -37,7 +37,7 @@ Says t = Clean (t .message)
 response-clean : (row : Row) (before : Core) (d : Execute.Done) (r : Execute.Response) → Clean (messageOf row before d r)
 unfolding messageOf
 response-clean row before d Execute.nothing = tt
-response-clean row before d Execute.r1 = status-free (d .core .kept) (nameOf (before .bus .state)) (row .app)
+response-clean row before d Execute.r1 = status-free _ _ _
 response-clean row before d Execute.r6 = tt
 response-clean row before d (Execute.r2 content) = tt
 response-clean row before d (Execute.r3 ocr) = tt

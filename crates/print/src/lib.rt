@@ -3,6 +3,15 @@ pub fn text(s: &[u8]) {
     io::write_all(1, s);
 }
 
+pub fn space() {
+    text(b" ");
+}
+
+// The end of a line.
+pub fn end() {
+    text(b"\n");
+}
+
 fn digit(n: u8) -> u8 {
     let d = n % 16;
     if d < 10 { 48 + d } else { 55 + d }
@@ -35,10 +44,26 @@ pub fn half(n: u16) {
     hex(&b);
 }
 
+// Bytes that are handed in, behind their name.
+pub fn given(name: &[u8], s: &[u8]) {
+    text(name);
+    hex(s);
+    space();
+}
+
+// An index and a word that are handed in, behind their name.
+pub fn indexed(name: &[u8], index: u8, n: u32) {
+    text(name);
+    byte(index);
+    space();
+    word(n);
+    space();
+}
+
 pub fn refused(number: u8) {
     text(b"refused ");
     byte(number);
-    text(b"\n");
+    end();
 }
 
 // The bytes that an encoder wrote, or its refusal.
@@ -48,7 +73,7 @@ pub fn encoded(r: codec::Encoded, out: &[u8]) {
             if n <= out.len() {
                 hex(&out[0..n]);
             }
-            text(b"\n");
+            end();
         }
         codec::Encoded::Refused(k) => refused(k),
     }

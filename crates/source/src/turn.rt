@@ -7,7 +7,7 @@ ghost use lib.ListN.{length};
 ghost use Rattle.model.specs.declared.card.Source.the-variants.{Blocks};
 ghost use Rattle.model.specs.declared.card.State.the-variants.{Data, Tran};
 ghost use Rattle.model.specs.Record.{withState};
-ghost use Rattle.model.specs.Frame.{block, keep, quiet};
+ghost use Rattle.model.specs.Frame.{block};
 ghost use Rattle.model.specs.Execute.{same};
 ghost use Rattle.model.specs.Data.{said, takeFrom, word32};
 ghost use Rattle.calls.specs.Seen.{returned};

@@ -1,29 +1,29 @@
 // The two checks by themselves.
 use print::byte;
+use print::end;
+use print::given;
 use print::half;
-use print::hex;
+use print::space;
 use print::text;
 
 fn seven(s: &[u8]) {
-    text(b"crc7 ");
-    hex(s);
-    text(b" ");
+    given(b"crc7 ", s);
     byte(crc::crc7(s));
-    text(b"\n");
+    end();
 }
 
-fn sixteen(name: &[u8], s: &[u8]) {
-    text(b"crc16 ");
-    text(name);
-    text(b" ");
+fn sixteen(s: &[u8]) {
+    space();
     half(crc::crc16(s));
-    text(b"\n");
+    end();
 }
 
 // 512 bytes of one value.
-fn filled(name: &[u8], b: u8) {
+fn filled(b: u8) {
     let block = [b; 512];
-    sixteen(name, &block);
+    text(b"crc16 512 x ");
+    byte(b);
+    sixteen(&block);
 }
 
 pub fn run() {
@@ -31,10 +31,12 @@ pub fn run() {
     seven(&[0x51, 0, 0, 0, 0]);
     seven(&[0x11, 0, 0, 0x09, 0]);
     seven(b"");
-    sixteen(b"empty", b"");
-    sixteen(b"123456789", b"123456789");
-    filled(b"512 x FF", 0xFF);
-    filled(b"512 x 00", 0);
-    filled(b"512 x AA", 0xAA);
-    filled(b"512 x 55", 0x55);
+    text(b"crc16 empty");
+    sixteen(b"");
+    text(b"crc16 123456789");
+    sixteen(b"123456789");
+    filled(0xFF);
+    filled(0);
+    filled(0xAA);
+    filled(0x55);
 }

@@ -1,7 +1,10 @@
 // Data packets: encoded from a payload, and decoded.
 use print::byte;
 use print::encoded;
+use print::end;
+use print::given;
 use print::hex;
+use print::space;
 use print::text;
 
 fn packet(payload: &[u8]) {
@@ -12,16 +15,14 @@ fn packet(payload: &[u8]) {
 
 fn decoded(p: &[u8]) {
     let mut number: u8 = 0;
-    text(b"packet ");
-    hex(p);
-    text(b" ");
+    given(b"packet ", p);
     hex(packet::decode(p, &mut number));
-    text(b" ");
+    space();
     byte(number);
-    text(b"\n");
+    end();
 }
 
-pub fn run() {
+fn payloads() {
     packet(&[0x02, 0x01, 0, 0, 0, 0, 0, 0]);
     packet(&[0x02, 0x05, 0, 0, 0, 0, 0, 0]);
     packet(&[0u8; 64]);
@@ -32,6 +33,10 @@ pub fn run() {
     packet(&[0x08]);
     packet(b"");
     packet(&[0u8; 513]);
+}
+
+pub fn run() {
+    payloads();
     decoded(&[0, 0, 0, 1, 0x10, 0x21]);
     decoded(&[0, 0, 0, 1, 0x10, 0x20]);
     decoded(&[0x08, 0x81, 0x08]);

@@ -1,8 +1,8 @@
-// Vectors of the registers and the size pair.
-mod registers_of;
-mod sizes;
+// Vectors of the CSD and the CID.
+mod cids;
+mod csds;
 
 fn main() {
-    registers_of::run();
-    sizes::run();
+    csds::run();
+    cids::run();
 }

@@ -24,5 +24,5 @@ power-up-spec =
     (λ c κs. search needs)
     (λ c.
     let test = c .before .before in
-    let start = test .before .before .before .before in
-    power-on (start .args .card) _ _ (test .before .if1 .left) _ (sym (test .allowed .ensures) ∙ not-false _ (c .before .if2 .left)) (c .fresh .ensures)))
+    let entry = test .before .before .before .before in
+    power-on (entry .args .card) _ _ (test .before .if1 .left) _ (sym (test .allowed .ensures) ∙ not-false _ (c .before .if2 .left)) (c .start .ensures)))

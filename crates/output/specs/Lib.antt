@@ -1,0 +1,2 @@
+-- Lines of output of the replay program.
+pub mod Write

@@ -1,0 +1,2 @@
+-- The replay of lines on the card.
+pub mod Replay

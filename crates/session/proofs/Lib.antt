@@ -1,0 +1,2 @@
+-- The bytes of a line that are kept.
+pub mod Kept
