@@ -1,2 +1,2 @@
--- Laws of a call on the line, and of the line that was read.
-pub mod Told
+-- Laws of the line that was read.
+pub mod Asked

@@ -2,9 +2,9 @@
 ghost use Prim.Native.Nat.{_≤_};
 ghost use lib.ListN.{length};
 use codec::Encoded;
-use playback::play;
 use model::card::Card;
 use model::settings::Settings;
+use playback::play;
 use registers::cid::Cid;
 
 // The card, and how much of a line has arrived.

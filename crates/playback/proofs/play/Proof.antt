@@ -1,7 +1,7 @@
 -- By the word of the line.
 use mathlib.Core.Path.{sym}
 use borrow.Author.Needs.{needs}
-use Rattle.playback.proofs.Told.{no-room, by-word, cmd-line, blk-line, take-line, over-line, bad-line, refused-by}
+use Rattle.playback.proofs.Asked.{no-room, by-word, cmd-line, blk-line, take-line, over-line, bad-line, refused-by}
 use Rattle.playback.proofs.play.Statement.{statement}
 use Rattle.playback.proofs.play.Tie as tie
 

@@ -1,9 +1,9 @@
 -- What is taken, told on the line.
 use borrow.Author.Needs.{needs}
 use Rattle.output.specs.declared.Kind.the-variants.{Block}
-use Rattle.playback.proofs.Told.{told-by}
-use Rattle.playback.proofs.take.Statement.{statement}
-use Rattle.playback.proofs.take.Tie as tie
+use Rattle.tell.proofs.Told.{told-by}
+use Rattle.tell.proofs.take.Statement.{statement}
+use Rattle.tell.proofs.take.Tie as tie
 
 pub take-spec : {M : Type 1} → statement M
 take-spec =

@@ -1,4 +1,4 @@
--- A call on the line, and the call that a line asks for.
+-- The call that a line asks for.
 use mathlib.Core.Path.{_≡_, sym, ap, _∙_}
 use mathlib.Core.List.{List, []}
 use Prim.Native.Nat.{ℕ, _<_, _≤_}
@@ -9,21 +9,16 @@ use Rattle.model.specs.Step.{World, step, commandFrame, blockIn, takeBlock, bus
 use Rattle.model.specs.declared.answer.Answer.the-variants.{Refused}
 use Rattle.model.specs.declared.card.Card.{Card}
 use Rattle.calls.specs.declared.Stepped.{Stepped}
-use Rattle.calls.specs.Seen.{Seen, returned}
+use Rattle.calls.specs.Seen.{returned}
 use Rattle.lines.specs.declared.Input.{Input}
 use Rattle.lines.specs.declared.Word.{Word}
 use Rattle.lines.specs.declared.Word.the-variants.{Cmd, Blk, Take, Over, Unreadable}
 use Rattle.lines.specs.Read.{Line, readLine, held, lineOf}
 use Rattle.lines.proofs.Laws.{read-laws}
-use Rattle.output.specs.declared.Kind.{Kind}
 use Rattle.output.specs.declared.Kind.the-variants.{Response, Block}
 use Rattle.output.specs.Write.{written, refusal}
-use Rattle.playback.specs.Replay.{Played, Shown, told, played, play, onText, playLine}
-
--- what is told of what the function returned is told of what the step gives
-pub told-by : (kind : Kind) (s : Stepped) (x : Seen) (memory out text : List ℕ) (a : Shown)
-    → a ≡ onText (told kind (returned s memory out)) text → returned s memory out ≡ x → a ≡ onText (told kind x) text
-told-by kind s x memory out text a p q = p ∙ ap (λ (y : Seen). onText (told kind y) text) q
+use Rattle.tell.specs.Told.{Played, Shown, told, played, onText}
+use Rattle.playback.specs.Replay.{play, playLine}
 
 -- a line that cannot be read
 pub refused-by : (card : Card) (memory text : List ℕ) (s : Stepped) (a : Shown)

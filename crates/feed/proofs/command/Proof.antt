@@ -1,9 +1,9 @@
 -- What the frame does, told on the line.
 use borrow.Author.Needs.{needs}
 use Rattle.output.specs.declared.Kind.the-variants.{Response}
-use Rattle.playback.proofs.Told.{told-by}
-use Rattle.playback.proofs.command.Statement.{statement}
-use Rattle.playback.proofs.command.Tie as tie
+use Rattle.tell.proofs.Told.{told-by}
+use Rattle.feed.proofs.command.Statement.{statement}
+use Rattle.feed.proofs.command.Tie as tie
 
 pub command-spec : {M : Type 1} → statement M
 command-spec =

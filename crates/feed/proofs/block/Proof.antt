@@ -1,9 +1,9 @@
 -- What the block does, told on the line.
 use borrow.Author.Needs.{needs}
 use Rattle.output.specs.declared.Kind.the-variants.{Response}
-use Rattle.playback.proofs.Told.{told-by}
-use Rattle.playback.proofs.block.Statement.{statement}
-use Rattle.playback.proofs.block.Tie as tie
+use Rattle.tell.proofs.Told.{told-by}
+use Rattle.feed.proofs.block.Statement.{statement}
+use Rattle.feed.proofs.block.Tie as tie
 
 pub block-spec : {M : Type 1} → statement M
 block-spec =

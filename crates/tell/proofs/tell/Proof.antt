@@ -2,9 +2,9 @@
 use mathlib.Core.Path.{ap}
 use borrow.Author.Needs.{needs}
 use Rattle.codec.specs.Answer.{Effect}
-use Rattle.playback.specs.Replay.{Shown}
-use Rattle.playback.proofs.tell.Statement.{statement}
-use Rattle.playback.proofs.tell.Tie as tie
+use Rattle.tell.specs.Told.{Shown}
+use Rattle.tell.proofs.tell.Statement.{statement}
+use Rattle.tell.proofs.tell.Tie as tie
 
 told : tie.Need-returns
 told c memory =

@@ -1,9 +1,9 @@
 -- What busy over does, told on the line.
 use borrow.Author.Needs.{needs}
 use Rattle.output.specs.declared.Kind.the-variants.{Response}
-use Rattle.playback.proofs.Told.{told-by}
-use Rattle.playback.proofs.over.Statement.{statement}
-use Rattle.playback.proofs.over.Tie as tie
+use Rattle.tell.proofs.Told.{told-by}
+use Rattle.tell.proofs.over.Statement.{statement}
+use Rattle.tell.proofs.over.Tie as tie
 
 pub over-spec : {M : Type 1} → statement M
 over-spec =
