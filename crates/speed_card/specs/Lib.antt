@@ -1,0 +1,2 @@
+-- Calls one after the other.
+pub mod Blocks
