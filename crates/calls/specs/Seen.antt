@@ -3,7 +3,7 @@ use mathlib.Core.List.{List}
 use Prim.Native.Nat.{ℕ}
 use Rattle.codec.specs.Answer.{Outcome}
 use Rattle.model.specs.declared.card.Card.{Card}
-use Rattle.model.specs.Step.{World, Call, Reply, Result, answer, step}
+use Rattle.model.specs.Step.{Call, Reply, Result, answer, step}
 use Rattle.calls.specs.declared.Stepped.{Stepped}
 
 pub record Seen : Type 0 where

@@ -5,7 +5,6 @@ use mathlib.Core.List.{List, [], _∷_, _++_}
 use Prim.Native.Nat.{ℕ, zero, suc, _≤_}
 use lib.Dec.{T, leb}
 use lib.ListN.{length}
-use Rattle.crc.specs.Bits.{bits}
 use Rattle.crc.specs.Crc.{_⊕_, shift, crc, clear}
 use Rattle.crc.specs.Altered.{Altered}
 

@@ -2,12 +2,9 @@
 use mathlib.Core.List.{List, [], _∷_}
 use Prim.Native.Nat.{ℕ}
 use Rattle.crc.specs.Bits.{digit}
-use Rattle.codec.specs.Answer.{Outcome, done, refused}
 use Rattle.codec.specs.Layout.{Slot, field, reserved}
 use Rattle.codec.specs.Format.{Format, crc7From}
 use Rattle.csd.specs.declared.Csd.{Csd}
-use Rattle.csd.specs.declared.CsdRead.{CsdRead}
-use Rattle.csd.specs.declared.CsdRead.the-variants.{Fields, Refused}
 
 abbrev pub csdSlots : List Slot
 csdSlots =
@@ -80,7 +77,3 @@ csdValues c =
     ∷ digit (c .«tmp_write_protect»)
     ∷ c .«file_format»
     ∷ []
-
-abbrev pub csdRead : CsdRead → Outcome (List ℕ)
-csdRead (Fields c) = done (csdValues c)
-csdRead (Refused k) = refused k

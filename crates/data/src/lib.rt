@@ -36,7 +36,7 @@ fn fresh(settings: Settings) -> Core
     let marks: [u8; 256] = [0; 256];
     Core {
         settings: settings,
-        csd: soundness::csd_of(settings),
+        csd: settings::csd_of(settings),
         bus: bus,
         kept: status::no_bits(),
         erase: erase,
@@ -65,7 +65,7 @@ pub fn power_up(card: Card, settings: Settings, memory: &[u8]) -> Stepped
     if memory.len() as u64 != settings.blocks as u64 * 512 {
         return refused(card, 3);
     }
-    if !soundness::allowed(settings) {
+    if !settings::allowed(settings) {
         return refused(card, 6);
     }
     Stepped {

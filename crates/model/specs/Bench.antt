@@ -14,7 +14,7 @@ use Rattle.model.specs.declared.settings.Settings.{Settings}
 use Rattle.model.specs.Settings.{capacity}
 use Rattle.model.specs.Soundness.{equal}
 use Rattle.model.specs.Data.{ACCEPTED}
-use Rattle.model.specs.Step.{Call, powerUp, commandFrame, blockIn, takeBlock, busyOver, World, Reply, silent, sent, answered, over, Result, step, start}
+use Rattle.model.specs.Step.{Call, commandFrame, blockIn, takeBlock, busyOver, World, Reply, silent, sent, answered, over, step, start}
 
 -- unprotected, CID zero
 abbrev pub sized : ℕ → ℕ → Settings

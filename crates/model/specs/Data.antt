@@ -1,16 +1,16 @@
 -- Data blocks (01, "Take", "Block in", "Busy over").
-use mathlib.Core.Bool.{Bool, true, false, cond, not, _&&_, _||_}
-use mathlib.Core.List.{List, [], _∷_, _++_}
-use Prim.Native.Nat.{ℕ, zero, suc, _+_, _-_, _*_, _/_, _%_, _^_}
-use lib.Dec.{eqb, leb, ltb}
+use mathlib.Core.Bool.{Bool, true, false, cond, not, _&&_}
+use mathlib.Core.List.{List, [], _∷_}
+use Prim.Native.Nat.{ℕ, zero, suc, _+_, _%_}
+use lib.Dec.{leb, ltb}
 use lib.ListN.{length, take, drop, replicate}
-use Rattle.crc.specs.Bits.{bits, bytes, number}
+use Rattle.crc.specs.Bits.{bits, bytes}
 use Rattle.packet.specs.Packet.{packetRight, payloadOf}
 use Rattle.model.specs.declared.card.Source.{Source}
 use Rattle.model.specs.declared.card.Source.the-variants.{Blocks, WriteProtect, SdStatus, WrittenBlocks, Scr}
 use Rattle.model.specs.declared.card.Sink.{Sink}
 use Rattle.model.specs.declared.card.State.{State}
-use Rattle.model.specs.declared.card.State.the-variants.{Stby, Tran, Data, Rcv, Prg}
+use Rattle.model.specs.declared.card.State.the-variants.{Tran, Data, Rcv, Prg}
 use Rattle.model.specs.declared.card.Core.{Core}
 use Rattle.model.specs.declared.card.Kept.{Kept}
 use Rattle.model.specs.Settings.{BLOCK, capacity, groups, scrBytes}
@@ -18,7 +18,7 @@ use Rattle.model.specs.Record.{withState, withWritten}
 use Rattle.model.specs.Status.{OUT-OF-RANGE, ADDRESS-ERROR, WP-VIOLATION}
 use Rattle.model.specs.Checks.{marked, groupOf, guarded}
 use Rattle.model.specs.Execute.{Effect, same, store, raise}
-use Rattle.model.specs.Frame.{Flag, keep, Message, silence, block, token, finished, Turn, quiet}
+use Rattle.model.specs.Frame.{keep, Message, block, token, finished, Turn, quiet}
 
 -- a call of data leaves COM_CRC_ERROR
 abbrev pub said : Core → Message → Effect → Turn

@@ -1,7 +1,7 @@
 -- What each command does when it runs (01, "Transitions", "Start checks", "Erase").
 use mathlib.Core.Bool.{Bool, true, false, cond, not, _&&_, _||_}
-use mathlib.Core.List.{List, [], _∷_}
-use mathlib.Core.Option.{Option, none, some}
+use mathlib.Core.List.{List}
+use mathlib.Core.Option.{none, some}
 use Prim.Native.Nat.{ℕ, zero, suc, _+_, _-_, _*_, _/_, _%_, _^_}
 use lib.Dec.{eqb, leb, ltb}
 use Rattle.model.specs.declared.card.Source.{Source}
@@ -14,8 +14,8 @@ use Rattle.model.specs.declared.card.Core.{Core}
 use Rattle.model.specs.declared.command.Command.{Command}
 use Rattle.model.specs.declared.command.Command.the-variants.{GoIdleState, AllSendCid, SendRelativeAddr, SelectCard, DeselectCard, SendIfCond, SendCsd, SendCid, StopTransmission, SendStatus, GoInactiveState, SetBlocklen, ReadSingleBlock, ReadMultipleBlock, WriteBlock, WriteMultipleBlock, SetWriteProt, ClrWriteProt, SendWriteProt, EraseWrBlkStart, EraseWrBlkEnd, Erase, AppCmd, SdStatus, SendNumWrBlocks, SetWrBlkEraseCount, SdSendOpCond, SetClrCardDetect, SendScr, Unknown}
 use Rattle.model.specs.Settings.{BLOCK, cidContent, csdContent, ocrOf}
-use Rattle.model.specs.Record.{withBus, withKept, withErase, withLength, withWritten, withMarks, withState, withRca, withPolls, noErase, isSet, address}
-use Rattle.model.specs.Status.{noBits, join, BLOCK-LEN-ERROR, ERASE-SEQ-ERROR, ERASE-PARAM, WP-ERASE-SKIP, ERASE-RESET}
+use Rattle.model.specs.Record.{withKept, withErase, withLength, withWritten, withMarks, withState, withRca, withPolls, noErase, isSet, address}
+use Rattle.model.specs.Status.{noBits, join, BLOCK-LEN-ERROR, ERASE-SEQ-ERROR, ERASE-PARAM, WP-ERASE-SKIP}
 use Rattle.model.specs.Table.{after}
 use Rattle.model.specs.Checks.{Check, firstFailure, addressChecks, readChecks, writeChecks, guarded, mark, groupOf}
 

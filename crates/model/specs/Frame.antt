@@ -18,7 +18,7 @@ use Rattle.model.specs.declared.command.Command.{Command}
 use Rattle.model.specs.declared.command.Command.the-variants.{GoIdleState, AllSendCid, SendRelativeAddr, SelectCard, DeselectCard, SendIfCond, SendCsd, SendCid, StopTransmission, SendStatus, GoInactiveState, SetBlocklen, ReadSingleBlock, ReadMultipleBlock, WriteBlock, WriteMultipleBlock, SetWriteProt, ClrWriteProt, SendWriteProt, EraseWrBlkStart, EraseWrBlkEnd, Erase, AppCmd, SdStatus, SendNumWrBlocks, SetWrBlkEraseCount, SdSendOpCond, SetClrCardDetect, SendScr, Unknown}
 use Rattle.model.specs.Record.{withKept, withApp}
 use Rattle.model.specs.Status.{noBits, withoutIllegal, ILLEGAL-COMMAND, ERASE-RESET, status}
-use Rattle.model.specs.Table.{Name, nameOf, ina, code, legal}
+use Rattle.model.specs.Table.{nameOf, ina, code, legal}
 use Rattle.model.specs.Execute as Execute
 use Rattle.model.specs.Execute.{Effect, same, Done, raise, pending, dropErase, run}
 

@@ -1,17 +1,17 @@
 -- Demand 3 (01, "The histories of demand 3"): one claim about a list of calls with damaged copies of frames inserted.
 use mathlib.Core.Path.{_≡_}
-use mathlib.Core.Bool.{Bool, true, false}
+use mathlib.Core.Bool.{true}
 use mathlib.Core.List.{List, [], _∷_}
 use Prim.Native.Nat.{ℕ, _%_, _≤_}
 use lib.ListN.{length, getD, set}
-use Rattle.codec.specs.Answer.{Outcome, done, refused}
+use Rattle.codec.specs.Answer.{done}
 use Rattle.wire.specs.Damage.{DamagedFrame}
 use Rattle.packet.specs.Damage.{DamagedBlock}
 use Rattle.model.specs.declared.settings.Settings.{Settings}
 use Rattle.model.specs.Settings.{capacity, allowed}
 use Rattle.model.specs.Frame.{Message, silence, r1, r6, plain, block, token, finished}
 use Rattle.model.specs.Data.{ACCEPTED}
-use Rattle.model.specs.Step.{Call, powerUp, commandFrame, blockIn, takeBlock, busyOver, World, Reply, silent, answered, Result, step, next, start, Sound}
+use Rattle.model.specs.Step.{Call, powerUp, commandFrame, blockIn, takeBlock, busyOver, World, silent, answered, step, next, start, Sound}
 
 -- a history starts with the record of its power-up and any memory of block count × 512 bytes
 pub record Start (w : World) : Type 0 where

@@ -1,8 +1,8 @@
 -- Settings (01, "The module on the bench"), and the registers that the card gives by them.
-use mathlib.Core.Bool.{Bool, true, false, cond, not, _&&_, _||_}
-use mathlib.Core.List.{List, [], _∷_, _++_}
-use Prim.Native.Nat.{ℕ, _+_, _-_, _*_, _/_, _^_}
-use lib.Dec.{eqb, leb, ltb}
+use mathlib.Core.Bool.{Bool, true, false, cond, _&&_}
+use mathlib.Core.List.{List, _∷_}
+use Prim.Native.Nat.{ℕ, _+_, _-_, _*_, _/_}
+use lib.Dec.{leb}
 use lib.ListN.{replicate}
 use Rattle.crc.specs.Bits.{bytes}
 use Rattle.codec.specs.Layout.{fits, write}

@@ -1,11 +1,10 @@
 -- Unsound records (01, "Settings"): the list in 01's order. What the types make impossible is not here; docs/DECISIONS.md names it.
 use mathlib.Core.Bool.{Bool, true, false, cond, not, _&&_, _||_}
 use mathlib.Core.List.{List, [], _∷_}
-use Prim.Native.Nat.{ℕ, zero, suc, _+_, _-_, _*_, _/_, _%_, _^_}
+use Prim.Native.Nat.{ℕ, _+_, _/_, _%_, _^_}
 use lib.Dec.{eqb, leb, ltb}
 use lib.ListN.{getD, drop}
 use Rattle.csd.specs.Csd.{csdValues}
-use Rattle.model.specs.declared.card.Source.{Source}
 use Rattle.model.specs.declared.card.Source.the-variants.{Blocks, WriteProtect, SdStatus, WrittenBlocks, Scr}
 use Rattle.model.specs.declared.card.State.{State}
 use Rattle.model.specs.declared.card.State.the-variants.{Idle, Ready, Ident, Stby, Tran, Data, Rcv, Prg, Dis, Ina}

@@ -1,7 +1,6 @@
 -- The card status (01, "Frames"): the bits that are kept, and the word that a response shows.
-use mathlib.Core.Bool.{Bool, true, false, cond, not, _&&_, _||_}
+use mathlib.Core.Bool.{Bool, true, false, _||_}
 use Prim.Native.Nat.{ℕ, _+_, _*_, _^_}
-use lib.Dec.{eqb}
 use Rattle.crc.specs.Bits.{digit}
 use Rattle.model.specs.declared.card.Kept.{Kept}
 use Rattle.model.specs.Table.{Name, idle, ready, ident, stby, tran, «data», rcv, prg, dis, ina, code}

@@ -1,10 +1,10 @@
 -- The five calls: refusals first, in 01's order, and then what the call does. This is the step that histories run.
 use mathlib.Core.Path.{_≡_}
-use mathlib.Core.Bool.{Bool, true, false, cond, not, _&&_, _||_}
+use mathlib.Core.Bool.{Bool, true, false, cond, not}
 use mathlib.Core.List.{List, [], _∷_, _++_}
 use mathlib.Core.Option.{Option, none, some}
-use Prim.Native.Nat.{ℕ, zero, suc, _+_, _-_, _*_, _/_, _%_}
-use lib.Dec.{eqb, leb, ltb}
+use Prim.Native.Nat.{ℕ, zero, suc, _+_, _-_, _*_}
+use lib.Dec.{eqb, ltb}
 use lib.ListN.{length, take, drop, replicate}
 use Rattle.codec.specs.Answer.{Outcome, done, refused}
 use Rattle.codec.specs.Format.{image}
@@ -20,14 +20,13 @@ use Rattle.model.specs.declared.card.State.{State}
 use Rattle.model.specs.declared.card.State.the-variants.{Idle, Ready, Ident, Stby, Tran, Data, Rcv, Prg, Dis, Ina}
 use Rattle.model.specs.declared.card.Core.{Core}
 use Rattle.model.specs.declared.card.Card.{Card}
-use Rattle.model.specs.declared.card.Line.{Line}
 use Rattle.model.specs.Settings.{BLOCK, capacity, allowed, csdOf}
 use Rattle.model.specs.Record.{noErase}
 use Rattle.model.specs.Status.{noBits, shown}
 use Rattle.model.specs.Soundness.{unsound}
 use Rattle.model.specs.Checks.{guarded}
 use Rattle.model.specs.Execute.{Effect, same, store, sweep, reset}
-use Rattle.model.specs.Frame.{Flag, keep, set, clear, Message, silence, r1, r6, plain, block, token, finished, Turn, quiet, receive}
+use Rattle.model.specs.Frame.{Flag, keep, set, clear, Message, silence, r1, r6, plain, block, token, finished, Turn, receive}
 use Rattle.model.specs.Data.{takeFrom, blockInto, overFrom, ACCEPTED, REJECTED}
 
 -- ---- calls, and what stays between them

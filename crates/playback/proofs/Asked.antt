@@ -11,7 +11,6 @@ use Rattle.model.specs.declared.card.Card.{Card}
 use Rattle.calls.specs.declared.Stepped.{Stepped}
 use Rattle.calls.specs.Seen.{returned}
 use Rattle.lines.specs.declared.Input.{Input}
-use Rattle.lines.specs.declared.Word.{Word}
 use Rattle.lines.specs.declared.Word.the-variants.{Cmd, Blk, Take, Over, Unreadable}
 use Rattle.lines.specs.Read.{Line, readLine, held, lineOf}
 use Rattle.lines.proofs.Laws.{read-laws}

@@ -1,6 +1,6 @@
 -- The card status of R1 and its short form of R6, by the standard's bit numbers.
 use mathlib.Core.Bool.{Bool}
-use mathlib.Core.List.{List, _∷_, _++_}
+use mathlib.Core.List.{_∷_}
 use Prim.Native.Nat.{ℕ, _/_, _%_, _^_}
 use Rattle.crc.specs.Bits.{bit, bits, number}
 

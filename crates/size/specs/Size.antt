@@ -1,7 +1,7 @@
 -- The size pair: block count n = (C_SIZE+1) × 2^(C_SIZE_MULT+2), C_SIZE ≤ 4095, C_SIZE_MULT ≤ 7, the smallest multiplier.
 use mathlib.Core.Path.{_≡_}
 use mathlib.Core.Bool.{Bool, cond, _&&_}
-use Prim.Native.Nat.{ℕ, zero, suc, _+_, _-_, _*_, _/_, _%_, _^_, _≤_, _<_}
+use Prim.Native.Nat.{ℕ, zero, suc, _+_, _-_, _*_, _/_, _%_, _^_, _≤_}
 use lib.Dec.{eqb, leb, ltb}
 use Rattle.size.specs.declared.SizePair.{SizePair}
 use Rattle.size.specs.declared.SizePair.the-variants.{Pair, NoPair}

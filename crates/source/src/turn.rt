@@ -112,12 +112,8 @@ fn take_blocks(
     }
     let start = address as usize;
     let end = start + length as usize;
-    send(
-        card,
-        behind(c, multiple, address + length),
-        &memory[start..end],
-        out,
-    )
+    let next = behind(c, multiple, address + length);
+    send(card, next, &memory[start..end], out)
 }
 
 pub(crate) fn take_from(source: Source, card: Card, memory: &[u8], out: &mut [u8]) -> Stepped

@@ -83,10 +83,7 @@ pub fn finish(row: Chosen, index: u8, before: Core, on: Core, done: Ran) -> Turn
     match reply {
         Reply::Nothing => ended(left, index, Message::Silence, sweep),
         Reply::R1 => {
-            let r1 = Message::R1 {
-                index: index,
-                word: word,
-            };
+            let r1 = Message::R1 { index, word };
             ended(none, index, r1, sweep)
         }
         Reply::R6 => {
@@ -100,10 +97,7 @@ pub fn finish(row: Chosen, index: u8, before: Core, on: Core, done: Ran) -> Turn
         Reply::Csd => ended(left, index, Message::Csd, sweep),
         Reply::R3(ocr) => ended(left, index, Message::R3(ocr), sweep),
         Reply::R7 { voltage, pattern } => {
-            let r7 = Message::R7 {
-                voltage: voltage,
-                pattern: pattern,
-            };
+            let r7 = Message::R7 { voltage, pattern };
             ended(left, index, r7, sweep)
         }
     }

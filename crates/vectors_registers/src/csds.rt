@@ -1,6 +1,6 @@
 // The CSD of cards of several sizes, encoded, decoded and encoded again.
 use csd::Csd;
-use csd::CsdRead;
+use csd_reply::CsdRead;
 use print::encoded;
 use print::refused;
 use print::text;
@@ -45,7 +45,7 @@ fn csd(c_size: u16, c_size_mult: u8, ccc: u16, permanent: bool, temporary: bool)
     let c = card(c_size, c_size_mult, ccc, permanent, temporary);
     text(b"CSD ");
     encoded(csd::encode(c, &mut out), &out);
-    match csd::decode(&out[0..16]) {
+    match csd_reply::decode(&out[0..16]) {
         CsdRead::Fields(d) => {
             let mut again = [0u8; 17];
             text(b"  again ");

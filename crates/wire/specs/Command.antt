@@ -1,5 +1,5 @@
 -- Command frames: start 0, transmission 1, 6-bit index, 32-bit argument, CRC7, end 1.
-use mathlib.Core.Bool.{Bool, cond}
+use mathlib.Core.Bool.{cond}
 use mathlib.Core.List.{List, [], _∷_}
 use Prim.Native.Nat.{ℕ}
 use lib.Dec.{eqb}

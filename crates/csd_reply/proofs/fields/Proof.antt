@@ -7,10 +7,10 @@ use lib.Dec.{lit≤}
 use lib.ListN.{take, drop}
 use Rattle.codec.specs.Layout.{width}
 use Rattle.codec.proofs.Words.{within}
 use Rattle.csd.specs.Csd.{csdSlots}
 use Rattle.registers.proofs.Words.{read-across, byte-part, flag-part, cons}
-use Rattle.csd.proofs.fields.Statement.{statement}
-use Rattle.csd.proofs.fields.Tie as tie
+use Rattle.csd_reply.proofs.fields.Statement.{statement}
+use Rattle.csd_reply.proofs.fields.Tie as tie
 
 pub fields-spec : {M : Type 1} → statement M
 unfolding width within

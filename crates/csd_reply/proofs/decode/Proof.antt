@@ -4,10 +4,10 @@ use native.Mathlib.Omega.{arith}
 use borrow.Author.Needs.{needs}
 use Rattle.codec.specs.Layout.{width, judged}
 use Rattle.codec.specs.Answer.{done}
 use Rattle.csd.specs.Csd.{csd}
 use Rattle.registers.proofs.Sixteen.{decode-refused, decode-fields, verdict-whole}
-use Rattle.csd.proofs.decode.Statement.{statement}
-use Rattle.csd.proofs.decode.Tie as tie
+use Rattle.csd_reply.proofs.decode.Statement.{statement}
+use Rattle.csd_reply.proofs.decode.Tie as tie
 
 pub decode-spec : {M : Type 1} → statement M
 unfolding width judged

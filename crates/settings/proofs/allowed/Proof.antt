@@ -1,12 +1,11 @@
 -- `allowed` makes the tests in their order.
 use mathlib.Core.Path.{_≡_, sym, ap, _∙_}
-use mathlib.Core.Bool.{Bool}
 use borrow.Author.Needs.{needs}
 use borrow.Author.Tests.{le-leb, lt-leb, not-true, not-false}
 use Rattle.size.specs.Size.{sizePair}
 use Rattle.model.specs.Settings.{allowed, isPair}
-use Rattle.soundness.proofs.allowed.Statement.{statement}
-use Rattle.soundness.proofs.allowed.Tie as tie
+use Rattle.settings.proofs.allowed.Statement.{statement}
+use Rattle.settings.proofs.allowed.Tie as tie
 
 -- what `is_pair` said of the pair of so many blocks
 pair-is : (c : tie.After-is-pair) → c .is-pair .result ≡ isPair (sizePair (c .before .before .before .before .before .before .args .s .blocks))

@@ -1,8 +1,8 @@
 -- `csd_of` takes the pair's parts into the CSD.
 use borrow.Author.Needs.{needs}
 use Rattle.model.specs.Settings.{csdOf}
-use Rattle.soundness.proofs.csd_of.Statement.{statement}
-use Rattle.soundness.proofs.csd_of.Tie as tie
+use Rattle.settings.proofs.csd_of.Statement.{statement}
+use Rattle.settings.proofs.csd_of.Tie as tie
 
 pub csd-of-spec : {M : Type 1} → statement M
 unfolding csdOf

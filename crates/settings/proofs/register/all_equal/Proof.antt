@@ -5,9 +5,9 @@ use native.Mathlib.Omega.{arith}
 use borrow.Author.Needs.{needs}
 use lib.ListN.{drop}
 use Rattle.model.specs.Soundness.{equal}
-use Rattle.soundness.proofs.Walks.{equal-differs, equal-more, equal-end}
-use Rattle.soundness.proofs.csd_same.all_equal.Statement.{statement}
-use Rattle.soundness.proofs.csd_same.all_equal.Tie as tie
+use Rattle.settings.proofs.Walks.{equal-differs, equal-more, equal-end}
+use Rattle.settings.proofs.register.all_equal.Statement.{statement}
+use Rattle.settings.proofs.register.all_equal.Tie as tie
 
 abbrev Inv-loop : tie.InvT-loop
 Inv-loop a b i₀ i = (i ≤ 28) × (equal (drop i a) (drop i b) ≡ equal a b)

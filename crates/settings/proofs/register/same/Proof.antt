@@ -2,8 +2,8 @@
 use mathlib.Core.Path.{ap₂, _∙_}
 use borrow.Author.Needs.{needs}
 use Rattle.model.specs.Soundness.{equal}
-use Rattle.soundness.proofs.csd_same.same.Statement.{statement}
-use Rattle.soundness.proofs.csd_same.same.Tie as tie
+use Rattle.settings.proofs.register.same.Statement.{statement}
+use Rattle.settings.proofs.register.same.Tie as tie
 
 pub same-spec : {M : Type 1} → statement M
 same-spec =

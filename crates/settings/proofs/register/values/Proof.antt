@@ -2,8 +2,8 @@
 use mathlib.Core.Path.{refl}
 use borrow.Author.Needs.{needs}
 use Rattle.registers.proofs.Words.{cons}
-use Rattle.soundness.proofs.csd_same.values.Statement.{statement}
-use Rattle.soundness.proofs.csd_same.values.Tie as tie
+use Rattle.settings.proofs.register.values.Statement.{statement}
+use Rattle.settings.proofs.register.values.Tie as tie
 
 pub values-spec : {M : Type 1} → statement M
 values-spec =

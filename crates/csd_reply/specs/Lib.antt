@@ -1,0 +1,2 @@
+-- The decoder's answers.
+pub mod Read

@@ -1,0 +1,2 @@
+-- Laws of two lists walked side by side.
+pub mod Walks
