@@ -1,4 +1,2 @@
-// What each command does when it runs: identification and erase here, the others in `commands`.
-mod erase;
-mod identify;
+// What each command does when it runs.
 pub mod run;

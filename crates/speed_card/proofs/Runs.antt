@@ -1,27 +1,15 @@
--- The frames one after the other, and the calls left at a loop's head.
+-- The calls left at a loop's head.
 use mathlib.Core.Path.{_≡_, refl, sym, ap, _∙_}
 use mathlib.Core.List.{List}
 use Prim.Native.Nat.{ℕ, suc, _+_, _-_, _<_, _≤_}
 use native.Mathlib.Omega.{arith}
-use lib.ListN.{length}
 use Rattle.model.specs.declared.card.Card.{Card}
-use Rattle.model.specs.Step.{World, Call, answer, start, step}
+use Rattle.model.specs.Step.{World, Call, answer, step}
 use Rattle.calls.specs.declared.Stepped.{Stepped}
 use Rattle.calls.specs.Seen.{Seen, returned, stepped, seen}
-use Rattle.speed_card.specs.Blocks.{settings, world, started, heard, right, Ran, ran, more, many}
-
--- ---- frames
-
-abbrev pub worldOf : Seen → World
-worldOf s = world (s .card) (s .memory)
-
-pub powered : (memory : List ℕ) (card : Card) → card ≡ start (settings (length memory)) → world card memory ≡ started memory
-powered memory card h = ap (λ (x : Card). world x memory) h
-
-pub after : {u v w : World} (frame : List ℕ) → v ≡ u → w ≡ heard v frame → w ≡ heard u frame
-after frame p q = q ∙ ap (λ (x : World). heard x frame) p
-
--- ---- blocks
+use Rattle.bring_up.specs.Opened.{world}
+use Rattle.bring_up.proofs.Frames.{worldOf}
+use Rattle.speed_card.specs.Blocks.{right, Ran, ran, more, many}
 
 module _ (call : List ℕ → Call) (k n : ℕ) where
   abbrev on : Seen → Ran

@@ -5,7 +5,8 @@ use native.Mathlib.Omega.{arith}
 use borrow.Author.Needs.{needs}
 use lib.ListN.{length}
 use Rattle.model.specs.Step.{takeBlock}
-use Rattle.speed_card.specs.Blocks.{world, more, many}
+use Rattle.bring_up.specs.Opened.{world}
+use Rattle.speed_card.specs.Blocks.{more, many}
 use Rattle.speed_card.proofs.Runs.{all-left, less, none-left}
 use Rattle.speed_card.proofs.take_many.Statement.{statement}
 use Rattle.speed_card.proofs.take_many.Tie as tie

@@ -1,0 +1,2 @@
+-- Frames one after the other.
+pub mod Frames

@@ -1,0 +1,2 @@
+-- A card that is brought to tran.
+pub mod Opened
