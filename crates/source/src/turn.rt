@@ -1,54 +1,26 @@
 // Take a block from an open read transfer: a block of memory, the marks, or a register.
 ghost use mathlib.Core.Path.{_≡_};
 ghost use mathlib.Core.Bool.{true, false, cond};
-ghost use mathlib.Core.List.{List};
-ghost use Prim.Native.Nat.{ℕ, _+_, _≤_};
-ghost use lib.ListN.{length};
 ghost use Rattle.model.specs.declared.card.Source.the-variants.{Blocks};
 ghost use Rattle.model.specs.declared.card.State.the-variants.{Data, Tran};
 ghost use Rattle.model.specs.Record.{withState};
-ghost use Rattle.model.specs.Frame.{block};
-ghost use Rattle.model.specs.Execute.{same};
-ghost use Rattle.model.specs.Data.{said, takeFrom, word32};
+ghost use Rattle.model.specs.Data.{takeFrom};
 ghost use Rattle.calls.specs.Seen.{returned};
 ghost use Rattle.transfer.specs.Turned.{turned};
 ghost use Rattle.source.specs.Takes.{Takes};
 use calls::Stepped;
 use calls::answered;
-use codec::Encoded;
 use model::answer::Answer;
 use model::card::Card;
 use model::card::Core;
 use model::card::Source;
 use model::card::State;
+use sender::send;
+use sender::send_word;
 use status::address_error;
 use status::out_of_range;
 use update::raise;
 use update::with_state;
-
-// A payload straight into the output buffer, with its check.
-fn send(card: Card, core: Core, payload: &[u8], out: &mut [u8]) -> Stepped
-    requires { ⌜ (1 ≤ length (now payload)) × (length (now payload) ≤ 512) × (514 ≤ length (now out)) ⌝ }
-    ensures { λ r.
-        ⌜ ((memory : List ℕ) → returned r memory (now (out .exit)) ≡ turned card memory (now (out .entry)) (said core (block (now (payload .entry))) same)) ⌝ }
-{
-    let sent = packet::encode(payload, out);
-    match sent {
-        Encoded::Done(n) => answered(card, core, Answer::Sent(n)),
-        Encoded::Refused(k) => answered(card, core, Answer::Refused(k)),
-    }
-}
-
-fn send_word(card: Card, word: u32, out: &mut [u8]) -> Stepped
-    requires { ⌜ 514 ≤ length (now out) ⌝ }
-    ensures { λ r.
-        ⌜ ((memory : List ℕ) → returned r memory (now (out .exit)) ≡ turned card memory (now (out .entry)) (said (withState (card .core) Tran) (block (word32 word)) same)) ⌝ }
-{
-    let core = card.core;
-    let mut payload: [u8; 4] = [0; 4];
-    codec::put(&mut payload, word as u64);
-    send(card, with_state(core, State::Tran), &payload, out)
-}
 
 // A held transfer is silent until it is ended.
 fn hold(core: Core, multiple: bool, address: u32) -> Core

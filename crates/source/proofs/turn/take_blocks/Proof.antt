@@ -8,7 +8,7 @@ use borrow.Rule.Slice.PartMut.{mid-len}
 use lib.ListN.{length, take, drop}
 use Rattle.model.specs.Data.{takeFrom}
 use Rattle.transfer.proofs.Turns.{silent, held-with}
-use Rattle.source.proofs.Sending.{sent-same}
+use Rattle.source.proofs.Sending.{block-sent, sent-same}
 use Rattle.source.proofs.Takes.{inside}
 use Rattle.source.proofs.turn.take_blocks.Statement.{statement}
 use Rattle.source.proofs.turn.take_blocks.Tie as tie
@@ -26,12 +26,6 @@ within c =
       start .pre .size .whole,
     )
 
-asked : tie.Need-send-requires
-asked c κs =
-    let start = c .before .before .before .before .before .before .before .before .before .before .before in
-    let n = mid-len (start .args .address) _ (start .args .memory .now) (within (c .before .before)) in
-    (omega (arith, n, start .pre .low), omega (arith, n, start .pre .high), start .pre .room)
-
 sent : tie.Need-returns-4
 unfolding takeFrom
 sent c =
@@ -42,9 +36,12 @@ sent c =
     let n = start .args .card .core .length in
     let send = c .before .before .send in
     let k : a + n - a ≡ n = omega arith in
+    let s = start .args .memory .now in
+    let l = mid-len a _ s (within behind) in
     rw (test .before .before .before .before .if1 .left, lt-leb _ _ (test .before .before .if2 .left), le-ltb _ _ (test .if3 .left))
-    (sent-same (send .result) _ _ _ _ _ _ _ _ (send .ensures (start .args .memory .now)) (behind .behind .ensures)
-    (ap (λ (j : ℕ). take j (drop a (start .args .memory .now))) k))
+    (sent-same (send .result) _ _ _ _ _ _ _ _
+    (block-sent (take (a + n - a) (drop a s)) (send .result) (start .args .card) _ _ _ _ (omega (arith, l, start .pre .low)) (omega (arith, l, start .pre .high)) (start .pre .room) (send .ensures s))
+    (behind .behind .ensures) (ap (λ (j : ℕ). take j (drop a s)) k))
 
 pub take-blocks-spec : {M : Type 1} → statement M
 unfolding takeFrom
@@ -91,6 +88,6 @@ take-blocks-spec =
     (λ c. search needs)
     (λ c. search needs)
     (λ c. within c)
-    asked
+    (λ c κs. search needs)
     (λ c. search needs)
     sent)

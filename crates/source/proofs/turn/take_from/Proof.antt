@@ -1,9 +1,12 @@
 -- Source by source.
 use mathlib.Core.Path.{refl, ap}
 use borrow.Author.Needs.{needs}
+use lib.Dec.{lit≤}
+use lib.ListN.{replicate}
 use Rattle.crc.specs.Bits.{bytes}
+use Rattle.model.specs.Settings.{scrBytes}
 use Rattle.model.specs.Data.{takeFrom}
-use Rattle.source.proofs.Sending.{sent-same}
+use Rattle.source.proofs.Sending.{block-sent, word-sent, sent-same}
 use Rattle.source.proofs.turn.take_from.Statement.{statement}
 use Rattle.source.proofs.turn.take_from.Tie as tie
 
@@ -17,7 +20,9 @@ marks c =
     let start = made .before .before .before .before .before .before .before in
     let send = c .before .before .send-word in
     rw (made .before .before .source2 .given .1)
-    (sent-same (send .result) _ _ _ _ _ _ _ _ (send .ensures (start .args .memory .now)) refl (ap (bytes 4) (made .mark-word .ensures)))
+    (sent-same (send .result) _ _ _ _ _ _ _ _
+    (word-sent _ (send .result) (start .args .card) _ _ _ _ (start .pre .room) (send .ensures (start .args .memory .now))) refl
+    (ap (bytes 4) (made .mark-word .ensures)))
 
 sd-status : tie.Need-returns-3
 unfolding takeFrom
@@ -26,13 +31,17 @@ sd-status c =
     let start = made .before .before .before .before .before .before in
     let send = c .before .before .send in
     rw (made .before .enum-told .given .1)
-    (sent-same (send .result) _ _ _ _ _ _ _ _ (send .ensures (start .args .memory .now)) (made .with-state .ensures) refl)
+    (sent-same (send .result) _ _ _ _ _ _ _ _
+    (block-sent (replicate 64 0) (send .result) (start .args .card) _ _ _ _ (lit≤ tt) (lit≤ tt) (start .pre .room) (send .ensures (start .args .memory .now)))
+    (made .with-state .ensures) refl)
 
 written : tie.Need-returns-4
 unfolding takeFrom
 written c =
     let told = c .before .before .before .before in
-    rw (told .enum-told2 .given .1) (c .before .before .send-word2 .ensures (told .before .before .before .before .before .args .memory .now))
+    let start = told .before .before .before .before .before in
+    let send = c .before .before .send-word2 in
+    rw (told .enum-told2 .given .1) (word-sent _ (send .result) (start .args .card) _ _ _ _ (start .pre .room) (send .ensures (start .args .memory .now)))
 
 scr : tie.Need-returns-5
 unfolding takeFrom
@@ -41,7 +50,9 @@ scr c =
     let start = made .before .before .before .before .before .before in
     let send = c .before .before .send2 in
     rw (made .before .enum-told3 .given .1)
-    (sent-same (send .result) _ _ _ _ _ _ _ _ (send .ensures (start .args .memory .now)) (made .with-state2 .ensures) refl)
+    (sent-same (send .result) _ _ _ _ _ _ _ _
+    (block-sent scrBytes (send .result) (start .args .card) _ _ _ _ (lit≤ tt) (lit≤ tt) (start .pre .room) (send .ensures (start .args .memory .now)))
+    (made .with-state2 .ensures) refl)
 
 pub take-from-spec : {M : Type 1} → statement M
 take-from-spec =

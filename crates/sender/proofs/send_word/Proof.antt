@@ -1,14 +1,14 @@
 -- Four bytes, high byte first.
 use borrow.Author.Needs.{needs}
-use Rattle.source.proofs.Sending.{sent-same}
-use Rattle.source.proofs.turn.send_word.Statement.{statement}
-use Rattle.source.proofs.turn.send_word.Tie as tie
+use Rattle.sender.proofs.Sent.{same-as}
+use Rattle.sender.proofs.send_word.Statement.{statement}
+use Rattle.sender.proofs.send_word.Tie as tie
 
 sent : tie.Need-returns
 sent c memory =
     let made = c .before .before .before .before .before in
     let send = c .before .before .send in
-    sent-same (send .result) _ _ _ _ _ _ _ _ (send .ensures memory) (made .with-state .ensures) (made .before .before .put .ensures)
+    same-as (send .result) (made .before .before .before .before .before .before .args .card) _ _ _ _ _ _ _ (send .ensures memory) (made .with-state .ensures) (made .before .before .put .ensures)
 
 pub send-word-spec : {M : Type 1} → statement M
 send-word-spec =

@@ -1,0 +1,2 @@
+-- A block that is sent.
+pub mod Sent

@@ -1,0 +1,2 @@
+-- What is seen of a block that is sent.
+pub mod Sending
