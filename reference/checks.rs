@@ -399,10 +399,10 @@ fn replay(input: &[u8]) -> Vec<u8> {
 #[test]
 fn damaged_copies() {
     let lines = |text: &'static str| text.lines().collect::<Vec<_>>();
-    let with = lines(include_str!("../crates/transcripts/data/damaged.in"));
-    let with_out = lines(include_str!("../crates/transcripts/data/damaged.out"));
-    let without = lines(include_str!("../crates/transcripts/data/damaged-without.in"));
-    let without_out = lines(include_str!("../crates/transcripts/data/damaged-without.out"));
+    let with = lines(include_str!("../crates/replay_transcripts/data/damaged.in"));
+    let with_out = lines(include_str!("../crates/replay_transcripts/data/damaged.out"));
+    let without = lines(include_str!("../crates/replay_transcripts/data/damaged-without.in"));
+    let without_out = lines(include_str!("../crates/replay_transcripts/data/damaged-without.out"));
     let mut left = without.iter().zip(&without_out).peekable();
     let mut shown = 0;
     for (line, answer) in with.iter().zip(&with_out) {
@@ -435,8 +435,8 @@ fn without_crc_error(answer: &str) -> String {
 fn transcripts() {
     macro_rules! check {
         ($($name:literal)*) => {$(
-            let input = include_bytes!(concat!("../crates/transcripts/data/", $name, ".in"));
-            let output = include_bytes!(concat!("../crates/transcripts/data/", $name, ".out"));
+            let input = include_bytes!(concat!("../crates/replay_transcripts/data/", $name, ".in"));
+            let output = include_bytes!(concat!("../crates/replay_transcripts/data/", $name, ".out"));
             assert!(replay(input) == output, $name);
         )*};
     }

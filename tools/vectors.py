@@ -1,5 +1,5 @@
 #!/usr/bin/env python3
-"""Works out what the programs vectors and vectors_* print, by polynomial long division and by the bit tables of the standard,
+"""Works out what the programs vectors_* print, by polynomial long division and by the bit tables of the standard,
 with nothing shared with the proved code. Usage: tools/vectors.py (writes the five programs' stdout files)
 
 The frames and registers that the standard and its readers publish stand below as they are printed
@@ -240,8 +240,8 @@ def sizes():
         out.append(f"blocks {n:08X} " + (f"C_SIZE {pair[0]:04X} C_SIZE_MULT {pair[1]:02X}" if pair else "no pair"))
 
 
-PROGRAMS = {"vectors": (checks, packets), "vectors_commands": (commands, statuses), "vectors_responses": (responses,),
-            "vectors_registers": (registers,), "vectors_configuration": (configuration, sizes)}
+PROGRAMS = {"vectors_packets": (checks, packets), "vectors_commands": (commands, statuses), "vectors_responses": (responses,),
+            "vectors_registers": (registers,), "vectors_scr_ocr": (configuration, sizes)}
 CRATES = pathlib.Path(__file__).resolve().parent.parent / "crates"
 for name, parts in PROGRAMS.items():
     out.clear()

@@ -3,7 +3,7 @@ use mathlib.Core.List.{List, [], _++_}
 use Prim.Native.Nat.{ℕ}
 use lib.ListN.{length, drop}
 use Rattle.codec.specs.declared.Encoded.{Encoded}
-use Rattle.codec.specs.declared.Encoded.the-variants.{Done, Refused}
+use Rattle.codec.specs.declared.Encoded.the-variants.{Wrote, Refused}
 
 -- what a call comes to: its values, or the number of its refusal
 pub data Outcome (A : Type 0) : Type 0 where
@@ -25,23 +25,23 @@ FIELD = 8
 
 -- an encoder's answer: how many bytes it wrote, or the number
 abbrev pub encoded : Encoded → Outcome ℕ
-encoded (Done n) = done n
+encoded (Wrote n) = done n
 encoded (Refused k) = refused k
 
--- an encoder's whole effect: its answer, and the output buffer afterwards
-pub record Effect : Type 0 where
+-- an encoder's whole encoding: its answer, and the output buffer afterwards
+pub record Encoding : Type 0 where
   pub answer : Outcome ℕ
   pub buffer : List ℕ
 
-abbrev pub effect : Encoded → List ℕ → Effect
-effect r out = record { answer = encoded r; buffer = out }
+abbrev pub encoding : Encoded → List ℕ → Encoding
+encoding r out = record { answer = encoded r; buffer = out }
 
 -- a refusal leaves the buffer
-abbrev pub refuse : ℕ → List ℕ → Effect
+abbrev pub refuse : ℕ → List ℕ → Encoding
 refuse k out = record { answer = refused k; buffer = out }
 
 -- bytes are written as a prefix; those behind it stay
-abbrev pub emit : List ℕ → List ℕ → Effect
+abbrev pub emit : List ℕ → List ℕ → Encoding
 emit s out = record { answer = done (length s); buffer = s ++ drop (length s) out }
 
 -- what a decoder that hands back a part of its input leaves: 0 and the part, or the number and nothing

@@ -7,7 +7,7 @@ use lib.ListN.{length, take, drop}
 use Rattle.crc.specs.Bits.{bitsOf, bytes}
 use Rattle.crc.specs.Crc.{crc, poly7}
 use Rattle.crc.specs.Detection.{same}
-use Rattle.codec.specs.Answer.{Outcome, done, refused, SIZE, BUFFER, WRONG, FIELD, Effect, refuse, emit}
+use Rattle.codec.specs.Answer.{Outcome, done, refused, SIZE, BUFFER, WRONG, FIELD, Encoding, refuse, emit}
 use Rattle.codec.specs.Layout.{Slot, width, write, read, fits, judged}
 
 pub data Ending : Type 0 where
@@ -48,7 +48,7 @@ right f s =
     judged (f .slots) bs && same (drop (width (f .slots)) bs) (ended (f .ending) (take (width (f .slots)) bs))
 
 -- row 4, row 8, or the bytes
-unfoldable pub encode : Format → List ℕ → List ℕ → Effect
+unfoldable pub encode : Format → List ℕ → List ℕ → Encoding
 encode f vs out = cond (ltb (length out) 17) (refuse BUFFER out) (cond (fits (f .slots) vs) (emit (image f vs) out) (refuse FIELD out))
 
 -- row 1, row 7, or the fields' values

@@ -19,7 +19,7 @@ pub const FIELD: u8 = 8;
 
 // How many bytes an encoder wrote, or the number of its refusal.
 pub enum Encoded {
-    Done(usize),
+    Wrote(usize),
     Refused(u8),
 }
 

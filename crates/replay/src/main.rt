@@ -1,4 +1,4 @@
 // The replay program: lines on standard input, one answer line each, for 01's card of the bench.
 fn main() {
-    session::run(0);
+    replay_session::run(0);
 }

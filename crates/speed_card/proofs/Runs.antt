@@ -3,12 +3,12 @@ use mathlib.Core.Path.{_≡_, refl, sym, ap, _∙_}
 use mathlib.Core.List.{List}
 use Prim.Native.Nat.{ℕ, suc, _+_, _-_, _<_, _≤_}
 use native.Mathlib.Omega.{arith}
-use Rattle.model.specs.declared.card.Card.{Card}
-use Rattle.model.specs.Step.{World, Call, answer, step}
-use Rattle.calls.specs.declared.Stepped.{Stepped}
-use Rattle.calls.specs.Seen.{Seen, returned, stepped, seen}
-use Rattle.bring_up.specs.Opened.{world}
-use Rattle.bring_up.proofs.Frames.{worldOf}
+use Rattle.card_model.specs.declared.card.Card.{Card}
+use Rattle.card_model.specs.Step.{World, Call, answer, step}
+use Rattle.card_call.specs.declared.Stepped.{Stepped}
+use Rattle.card_call.specs.Seen.{Seen, returned, stepped, seen}
+use Rattle.speed_open.specs.Opened.{world}
+use Rattle.speed_open.proofs.Frames.{worldOf}
 use Rattle.speed_card.specs.Blocks.{right, Ran, ran, more, many}
 
 module _ (call : List ℕ → Call) (k n : ℕ) where

@@ -2,11 +2,11 @@
 ghost use mathlib.Core.Path.{_≡_};
 ghost use mathlib.Core.List.{[]};
 ghost use Prim.Native.Nat.{_≤_};
-ghost use Rattle.model.specs.Step.{answer, takeBlock};
-ghost use Rattle.bring_up.specs.Opened.{world, opened};
+ghost use Rattle.card_model.specs.Step.{answer, takeBlock};
+ghost use Rattle.speed_open.specs.Opened.{world, opened};
 ghost use Rattle.speed_card.specs.Blocks.{READ, WRITE, right, ran, many, again};
-use model::answer::Answer;
-use model::card::Card;
+use card_model::answer::Answer;
+use card_model::card::Card;
 
 // 1 where a whole block was sent, or one was accepted.
 fn right(a: Answer) -> u32
@@ -22,7 +22,7 @@ fn right(a: Answer) -> u32
         }
         Answer::Accepted => 1,
         Answer::Rejected => 0,
-        Answer::Done => 0,
+        Answer::Over => 0,
         Answer::Refused(_) => 0,
     }
 }
@@ -36,7 +36,7 @@ fn take_many(card: Card, memory: &[u8], out: &mut [u8], count: u32) -> u32
     let mut n: u32 = 0;
     let mut taken: u32 = 0;
     while taken < count {
-        let s = source::take(now, memory, out);
+        let s = card_take::take(now, memory, out);
         let answer = s.answer;
         now = s.card;
         n += right(answer);
@@ -54,7 +54,7 @@ fn give_many(card: Card, block: &[u8], memory: &mut [u8], count: u32) -> u32
     let mut n: u32 = 0;
     let mut given: u32 = 0;
     while given < count {
-        let s = sink::block_in(now, block, memory);
+        let s = card_block_in::block_in(now, block, memory);
         let answer = s.answer;
         now = s.card;
         n += right(answer);
@@ -70,7 +70,7 @@ pub extern "C" fn proved_reads(memory: &mut [u8], out: &mut [u8], count: u32) ->
         ⌜ ran (now (memory .exit)) (now (out .exit)) r
         ≡ many takeBlock count (opened READ (now (memory .entry))) (now (out .entry)) ⌝ }
 {
-    let card = bring_up::open([0x52, 0, 0, 0, 0, 0xE1], memory);
+    let card = speed_open::open([0x52, 0, 0, 0, 0, 0xE1], memory);
     take_many(card, memory, out, count)
 }
 
@@ -81,6 +81,6 @@ pub extern "C" fn proved_writes(memory: &mut [u8], block: &[u8], count: u32) -> 
         ⌜ ran (now (memory .exit)) [] r
         ≡ many (again (now (block .entry))) count (opened WRITE (now (memory .entry))) [] ⌝ }
 {
-    let card = bring_up::open([0x59, 0, 0, 0, 0, 0x03], memory);
+    let card = speed_open::open([0x59, 0, 0, 0, 0, 0x03], memory);
     give_many(card, block, memory, count)
 }

@@ -1,20 +1,20 @@
 // Vectors of the command frames: encoded from index and argument, decoded back, and frames that are refused; then R1.
 mod status;
 
-use print::byte;
-use print::encoded;
-use print::end;
-use print::given;
-use print::indexed;
-use print::refused;
-use print::space;
-use print::text;
-use print::word;
-use wire::command::CommandRead;
-use wire::command::FrameCheck;
+use vectors_print::byte;
+use vectors_print::encoded;
+use vectors_print::end;
+use vectors_print::given;
+use vectors_print::indexed;
+use vectors_print::refused;
+use vectors_print::space;
+use vectors_print::text;
+use vectors_print::word;
+use wire_frame::command::CommandRead;
+use wire_frame::command::FrameCheck;
 
 fn decoded(s: &[u8]) {
-    match wire::command::decode(s) {
+    match wire_frame::command::decode(s) {
         CommandRead::Command { index, argument } => {
             byte(index);
             space();
@@ -28,7 +28,7 @@ fn decoded(s: &[u8]) {
 fn command(index: u8, argument: u32) {
     let mut out = [0u8; 17];
     indexed(b"command ", index, argument);
-    encoded(wire::command::encode(index, argument, &mut out), &out);
+    encoded(wire_frame::command::encode(index, argument, &mut out), &out);
     text(b"  decoded ");
     decoded(&out[0..6]);
 }
@@ -36,7 +36,7 @@ fn command(index: u8, argument: u32) {
 // A frame as it arrives: what the frame check and the decoder say.
 fn frame(s: &[u8]) {
     given(b"frame ", s);
-    match wire::command::check(s) {
+    match wire_frame::command::check(s) {
         FrameCheck::Good => text(b"good "),
         FrameCheck::Size => text(b"size "),
         FrameCheck::Start => text(b"start or transmission "),

@@ -1,21 +1,21 @@
 // R1, the answer to most commands: encoded from index and card status, and decoded.
-use print::encoded;
-use print::end;
-use print::given;
-use print::indexed;
-use print::refused;
-use print::word;
-use reply::R1Read;
+use vectors_print::encoded;
+use vectors_print::end;
+use vectors_print::given;
+use vectors_print::indexed;
+use vectors_print::refused;
+use vectors_print::word;
+use wire_response_decode::R1Read;
 
 fn r1(index: u8, status: u32) {
     let mut out = [0u8; 17];
     indexed(b"R1 ", index, status);
-    encoded(response::encode_r1(index, status, &mut out), &out);
+    encoded(wire_response::encode_r1(index, status, &mut out), &out);
 }
 
 fn r1_decoded(index: u8, s: [u8; 6]) {
     given(b"R1 ", &s);
-    match reply::decode_r1(index, &s) {
+    match wire_response_decode::decode_r1(index, &s) {
         R1Read::Status(status) => {
             word(status);
             end();

@@ -1,19 +1,19 @@
 // CIDs, encoded and decoded.
-use print::byte;
-use print::encoded;
-use print::end;
-use print::half;
-use print::refused;
-use print::text;
-use print::word;
-use registers::cid::Cid;
-use registers::cid::CidRead;
+use reg_cid::cid::Cid;
+use reg_cid::cid::CidRead;
+use vectors_print::byte;
+use vectors_print::encoded;
+use vectors_print::end;
+use vectors_print::half;
+use vectors_print::refused;
+use vectors_print::text;
+use vectors_print::word;
 
 fn cid(mid: u8, oid: u16, pnm: u64, prv: u8, psn: u32, mdt: u16) {
     let mut out = [0u8; 17];
     text(b"CID ");
     encoded(
-        registers::cid::encode(
+        reg_cid::cid::encode(
             Cid {
                 mid,
                 oid,
@@ -26,7 +26,7 @@ fn cid(mid: u8, oid: u16, pnm: u64, prv: u8, psn: u32, mdt: u16) {
         ),
         &out,
     );
-    match registers::cid::decode(&out[0..16]) {
+    match reg_cid::cid::decode(&out[0..16]) {
         CidRead::Fields(c) => {
             text(b"  PRV ");
             byte(c.prv);

@@ -1,9 +1,9 @@
 // The CSD of cards of several sizes, encoded, decoded and encoded again.
-use csd::Csd;
-use csd_reply::CsdRead;
-use print::encoded;
-use print::refused;
-use print::text;
+use reg_csd::Csd;
+use reg_csd_decode::CsdRead;
+use vectors_print::encoded;
+use vectors_print::refused;
+use vectors_print::text;
 
 // The fields that the card gives, for a size pair, a CCC and the two protection bits.
 fn card(c_size: u16, c_size_mult: u8, ccc: u16, permanent: bool, temporary: bool) -> Csd {
@@ -44,12 +44,12 @@ fn csd(c_size: u16, c_size_mult: u8, ccc: u16, permanent: bool, temporary: bool)
     let mut out = [0u8; 17];
     let c = card(c_size, c_size_mult, ccc, permanent, temporary);
     text(b"CSD ");
-    encoded(csd::encode(c, &mut out), &out);
-    match csd_reply::decode(&out[0..16]) {
+    encoded(reg_csd::encode(c, &mut out), &out);
+    match reg_csd_decode::decode(&out[0..16]) {
         CsdRead::Fields(d) => {
             let mut again = [0u8; 17];
             text(b"  again ");
-            encoded(csd::encode(d, &mut again), &again);
+            encoded(reg_csd::encode(d, &mut again), &again);
         }
         CsdRead::Refused(k) => refused(k),
     }

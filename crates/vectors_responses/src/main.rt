@@ -1,27 +1,27 @@
 // Vectors of the responses other than R1: encoded from their fields, and decoded.
-use print::byte;
-use print::encoded;
-use print::end;
-use print::given;
-use print::half;
-use print::hex;
-use print::refused;
-use print::space;
-use print::text;
-use print::word;
-use reply::R3Read;
-use reply::R6Read;
-use reply::R7Read;
+use vectors_print::byte;
+use vectors_print::encoded;
+use vectors_print::end;
+use vectors_print::given;
+use vectors_print::half;
+use vectors_print::hex;
+use vectors_print::refused;
+use vectors_print::space;
+use vectors_print::text;
+use vectors_print::word;
+use wire_response_decode::R3Read;
+use wire_response_decode::R6Read;
+use wire_response_decode::R7Read;
 
 fn r3(ocr: u32) {
     let mut out = [0u8; 17];
     text(b"R3 ");
-    encoded(response::encode_r3(ocr, &mut out), &out);
+    encoded(wire_response::encode_r3(ocr, &mut out), &out);
 }
 
 fn r3_decoded(s: [u8; 6]) {
     given(b"R3 ", &s);
-    match reply::decode_r3(&s) {
+    match wire_response_decode::decode_r3(&s) {
         R3Read::Ocr(ocr) => {
             word(ocr);
             end();
@@ -31,7 +31,7 @@ fn r3_decoded(s: [u8; 6]) {
 }
 
 fn r6_decoded(s: &[u8]) {
-    match reply::decode_r6(s) {
+    match wire_response_decode::decode_r6(s) {
         R6Read::Published { rca, status } => {
             half(rca);
             space();
@@ -44,9 +44,9 @@ fn r6_decoded(s: &[u8]) {
 
 fn r6(rca: u16, status: u32) {
     let mut out = [0u8; 17];
-    let short = response::status::short_status(status);
+    let short = wire_response::status::short_status(status);
     text(b"R6 ");
-    encoded(response::encode_r6(rca, short, &mut out), &out);
+    encoded(wire_response::encode_r6(rca, short, &mut out), &out);
     text(b"  decoded ");
     r6_decoded(&out[0..6]);
 }
@@ -54,12 +54,12 @@ fn r6(rca: u16, status: u32) {
 fn r7(voltage: u8, pattern: u8) {
     let mut out = [0u8; 17];
     text(b"R7 ");
-    encoded(response::encode_r7(voltage, pattern, &mut out), &out);
+    encoded(wire_response::encode_r7(voltage, pattern, &mut out), &out);
 }
 
 fn r7_decoded(s: [u8; 6]) {
     given(b"R7 ", &s);
-    match reply::decode_r7(&s) {
+    match wire_response_decode::decode_r7(&s) {
         R7Read::Echo { voltage, pattern } => {
             byte(voltage);
             space();
@@ -73,7 +73,7 @@ fn r7_decoded(s: [u8; 6]) {
 fn r2_decoded(s: &[u8]) {
     let mut number: u8 = 0;
     given(b"R2 ", s);
-    hex(reply::decode_r2(s, &mut number));
+    hex(wire_response_decode::decode_r2(s, &mut number));
     space();
     byte(number);
     end();
@@ -83,7 +83,7 @@ fn r2_decoded(s: &[u8]) {
 fn register() {
     let mut out = [0u8; 17];
     text(b"R2 ");
-    encoded(response::encode_r2([0u8; 15], &mut out), &out);
+    encoded(wire_response::encode_r2([0u8; 15], &mut out), &out);
     r2_decoded(&out);
     r2_decoded(&[0x3F, 0, 0, 0, 0, 0, 0, 0, 0, 0, 0, 0, 0, 0, 0, 0, 0]);
     r2_decoded(&[0x3F, 0, 0, 0, 0, 0, 0, 0, 0, 0, 0, 0, 0, 0, 0, 0]);

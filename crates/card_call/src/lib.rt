@@ -1,0 +1,35 @@
+// What a call returns: its answer and the record.
+ghost use mathlib.Core.Path.{_≡_};
+use card_model::answer::Answer;
+use card_model::card::Card;
+use card_model::card::Core;
+
+pub struct Stepped {
+    pub answer: Answer,
+    pub card: Card,
+}
+
+// The number alone; the record stays.
+pub fn refused(card: Card, number: u8) -> Stepped
+    ensures { λ r. ⌜ r ≡ record { answer = Answer.Refused number; card = card } ⌝ }
+{
+    Stepped {
+        answer: Answer::Refused(number),
+        card: card,
+    }
+}
+
+// The answer and the new record; what the line knows stays.
+pub fn answered(card: Card, core: Core, answer: Answer) -> Stepped
+    ensures { λ r. ⌜ r ≡ record { answer = answer; card = record { core = core; line = card .line } } ⌝ }
+{
+    let line = card.line;
+    let next = Card {
+        core: core,
+        line: line,
+    };
+    Stepped {
+        answer: answer,
+        card: next,
+    }
+}

@@ -1,0 +1,16 @@
+-- Kept, set or cleared.
+use Rattle.card_model.specs.Step.{flagged}
+use Rattle.card_command.proofs.flagged.Statement.{statement}
+use Rattle.card_command.proofs.flagged.Tie as tie
+
+pub flagged-spec : {M : Type 1} → statement M
+unfolding flagged
+flagged-spec =
+    tie.close
+    (tie.spec
+    (λ c. c .match .keys1)
+    (λ c. c .match .keys2)
+    (λ c. c .match .keys3)
+    (λ c. rw (c .enum-told .given .1))
+    (λ c. rw (c .enum-told2 .given .1))
+    (λ c. rw (c .enum-told3 .given .1)))

@@ -1,0 +1,49 @@
+-- Demand 3, over every history: by induction on its entries, with two worlds that agree but for COM_CRC_ERROR.
+use mathlib.Core.Path.{_≡_, refl}
+use mathlib.Core.Bool.{false}
+use mathlib.Core.List.{List, [], _∷_}
+use Prim.Native.Nat.{ℕ}
+use Rattle.wire_frame.specs.Command.{frameCheck}
+use Rattle.wire_frame.specs.Damage.{DamagedFrame}
+use Rattle.wire_frame.specs.declared.command.FrameCheck.the-variants.{Good}
+use Rattle.wire_packet.specs.Packet.{packetRight}
+use Rattle.wire_packet.specs.Damage.{DamagedBlock}
+use Rattle.card_model.specs.Step.{Call, powerUp, commandFrame, blockIn, takeBlock, busyOver, World, next, step, Sound, KeepsSound}
+use Rattle.card_model.specs.History.{Entry, call, copy, SameWorld, Unharmed, Alike, Unheard, Agree, StartsSound, Demand3}
+use Rattle.wire_frame.proofs.Detection.{damaged-checked}
+use Rattle.wire_packet.proofs.Detection.{block-caught}
+use Rattle.card_model.proofs.Sound.{starts-sound, keeps-sound}
+use Rattle.card_model.proofs.Alike.{Matched, step-alike}
+use Rattle.card_model.proofs.Damaged.{copy-unheard, block-not-stored}
+
+module _
+    (caught : (f : List ℕ) → DamagedFrame f → frameCheck f ≡ Good → ⊥)
+    (wrong : (s : List ℕ) → DamagedBlock s → packetRight s ≡ false)
+  where
+    unharmed : (w : World) (c : Call) → Unharmed w c
+    unharmed w (blockIn s) = λ d. block-not-stored w s (wrong s d)
+    unharmed w (powerUp s) = tt
+    unharmed w (commandFrame frame out) = tt
+    unharmed w (takeBlock out) = tt
+    unharmed w busyOver = tt
+
+    alike : (a b : World) → SameWorld a b → (c : Call) → Alike a b c
+    alike a b e c =
+        let m : Matched (step a c) (step b c) = step-alike a b e c in
+        record { answer = m .answer; message = m .message; out = m .out; world = m .world; withCopies = unharmed a c; without = unharmed b c }
+
+    agree : KeepsSound → (h : List Entry) (a b : World) → SameWorld a b → Sound a → Agree a b h
+    agree keeps [] a b e s = tt
+    agree keeps (call c ∷ h) a b e s =
+        let x : Alike a b c = alike a b e c in
+        (x, agree keeps h (next a c) (next b c) (x .world) (keeps a c s))
+    agree keeps (copy frame out d room ∷ h) a b e s =
+        let x : Unheard a b frame out = copy-unheard a b frame out e s (d .gotSize) room (caught frame d) in
+        (x, agree keeps h (next a (commandFrame frame out)) b (x .world) (keeps a (commandFrame frame out) s))
+
+    pub from : StartsSound → KeepsSound → Demand3
+    from starts keeps w st h = agree keeps h w w (record { core = refl; memory = refl }) (starts w st)
+
+-- with the error-detection law of the two checks, and with what every call keeps: nothing is assumed
+pub demand3 : Demand3
+demand3 = from damaged-checked block-caught starts-sound keeps-sound

@@ -1,0 +1,16 @@
+-- A group that the card has, with its mark.
+use borrow.Author.Needs.{needs}
+use borrow.Author.Tests.{le-ltb, lt-ltb}
+use Rattle.card_protect.proofs.shown.Statement.{statement}
+use Rattle.card_protect.proofs.shown.Tie as tie
+
+pub shown-spec : {M : Type 1} → statement M
+shown-spec =
+    tie.close
+    (tie.spec
+    (λ c. search needs)
+    (λ c. search needs)
+    (λ c. search needs)
+    (λ c. simp (le-ltb _ _ (c .if1 .taken)))
+    (λ c κs. search needs)
+    (λ c. simp (lt-ltb _ _ (c .before .before .if1 .left), c .marked .ensures)))

@@ -1,0 +1,28 @@
+-- State by state.
+use Rattle.card_receive.proofs.inactive.Statement.{statement}
+use Rattle.card_receive.proofs.inactive.Tie as tie
+
+pub inactive-spec : {M : Type 1} → statement M
+inactive-spec =
+    tie.close
+    (tie.spec
+    (λ c. c .match .keys1)
+    (λ c. c .match .keys2)
+    (λ c. c .match .keys3)
+    (λ c. c .match .keys4)
+    (λ c. c .match .keys5)
+    (λ c. c .match .keys6)
+    (λ c. c .match .keys7)
+    (λ c. c .match .keys8)
+    (λ c. c .match .keys9)
+    (λ c. c .match .keys10)
+    (λ c. rw (c .enum-told .given .1))
+    (λ c. rw (c .enum-told2 .given .1))
+    (λ c. rw (c .enum-told3 .given .1))
+    (λ c. rw (c .enum-told4 .given .1))
+    (λ c. rw (c .enum-told5 .given .1))
+    (λ c. rw (c .enum-told6 .given .1))
+    (λ c. rw (c .enum-told7 .given .1))
+    (λ c. rw (c .enum-told8 .given .1))
+    (λ c. rw (c .enum-told9 .given .1))
+    (λ c. rw (c .enum-told10 .given .1)))

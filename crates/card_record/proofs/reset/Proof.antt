@@ -1,0 +1,16 @@
+-- Part after part.
+use mathlib.Core.Path.{ap, ap₂, _∙_}
+use Rattle.card_model.specs.declared.card.Core.{Core}
+use Rattle.card_model.specs.Record.{withErase, withKept, withLength, withWritten}
+use borrow.Author.Needs.{needs}
+use Rattle.card_record.proofs.reset.Statement.{statement}
+use Rattle.card_record.proofs.reset.Tie as tie
+
+pub reset-spec : {M : Type 1} → statement M
+reset-spec = tie.close (tie.spec (λ c κs. search needs) (λ c κs. search needs) (λ c κs. search needs) (λ c κs. search needs) (λ c κs. search needs)
+    (λ c.
+    let kept = c .before .before .with-kept in
+    let e = c .with-erase .ensures ∙ ap₂ withErase
+    (kept .ensures ∙ ap₂ withKept (c .before .before .before .before .with-bus .ensures) (c .before .before .before .no-bits .ensures))
+    (c .before .no-erase .ensures) in
+    ap (λ (x : Core). withWritten (withLength x 512) 0) e))

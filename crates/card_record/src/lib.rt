@@ -1,0 +1,140 @@
+// The record's parts, one update for each.
+ghost use mathlib.Core.Path.{_≡_};
+ghost use Rattle.card_model.specs.Record.{withBus, withState, withApp, withRca, withPolls, withKept, withErase, withLength, withWritten, withMarks, noErase};
+ghost use Rattle.card_model.specs.Execute.{raise, reset, dropErase};
+use card_model::card::Bus;
+use card_model::card::Core;
+use card_model::card::Erase;
+use card_model::card::Kept;
+use card_model::card::Mark;
+use card_model::card::State;
+use card_status::join;
+use card_status::no_bits;
+
+pub fn with_bus(c: Core, bus: Bus) -> Core
+    ensures { λ r. ⌜ r ≡ withBus c bus ⌝ }
+{
+    let mut next = c;
+    next.bus = bus;
+    next
+}
+
+pub fn with_kept(c: Core, kept: Kept) -> Core
+    ensures { λ r. ⌜ r ≡ withKept c kept ⌝ }
+{
+    let mut next = c;
+    next.kept = kept;
+    next
+}
+
+pub fn with_erase(c: Core, erase: Erase) -> Core
+    ensures { λ r. ⌜ r ≡ withErase c erase ⌝ }
+{
+    let mut next = c;
+    next.erase = erase;
+    next
+}
+
+pub fn with_length(c: Core, length: u16) -> Core
+    ensures { λ r. ⌜ r ≡ withLength c length ⌝ }
+{
+    let mut next = c;
+    next.length = length;
+    next
+}
+
+pub fn with_written(c: Core, written: u32) -> Core
+    ensures { λ r. ⌜ r ≡ withWritten c written ⌝ }
+{
+    let mut next = c;
+    next.written = written;
+    next
+}
+
+pub fn with_marks(c: Core, marks: [u8; 256]) -> Core
+    ensures { λ r. ⌜ r ≡ withMarks c marks ⌝ }
+{
+    let mut next = c;
+    next.marks = marks;
+    next
+}
+
+pub fn with_state(c: Core, s: State) -> Core
+    ensures { λ r. ⌜ r ≡ withState c s ⌝ }
+{
+    let bus = c.bus;
+    let next = Bus {
+        state: s,
+        rca: bus.rca,
+        published: bus.published,
+        polls: bus.polls,
+        app: bus.app,
+    };
+    with_bus(c, next)
+}
+
+pub fn with_app(c: Core, app: bool) -> Core
+    ensures { λ r. ⌜ r ≡ withApp c app ⌝ }
+{
+    let mut bus = c.bus;
+    bus.app = app;
+    with_bus(c, bus)
+}
+
+// The address that command 3 publishes is the card's own from then on.
+pub fn with_rca(c: Core, address: u16) -> Core
+    ensures { λ r. ⌜ r ≡ withRca c address ⌝ }
+{
+    let mut bus = c.bus;
+    bus.rca = address;
+    bus.published = address;
+    with_bus(c, bus)
+}
+
+pub fn with_polls(c: Core, polls: u8) -> Core
+    ensures { λ r. ⌜ r ≡ withPolls c polls ⌝ }
+{
+    let mut bus = c.bus;
+    bus.polls = polls;
+    with_bus(c, bus)
+}
+
+pub fn raise(c: Core, kept: Kept) -> Core
+    ensures { λ r. ⌜ r ≡ raise c kept ⌝ }
+{
+    let held = c.kept;
+    with_kept(c, join(held, kept))
+}
+
+fn no_erase() -> Erase
+    ensures { λ r. ⌜ r ≡ noErase ⌝ }
+{
+    Erase {
+        first: Mark::Unset,
+        second: Mark::Unset,
+    }
+}
+
+// The erase marks go, and a status bit is set.
+pub fn drop_erase(c: Core, kept: Kept) -> Core
+    ensures { λ r. ⌜ r ≡ dropErase c kept ⌝ }
+{
+    with_erase(raise(c, kept), no_erase())
+}
+
+// Command 0: all but the settings, the last published address and the marks.
+pub fn reset(c: Core) -> Core
+    ensures { λ r. ⌜ r ≡ reset c ⌝ }
+{
+    let bus = Bus {
+        state: State::Idle,
+        rca: 0,
+        published: c.bus.published,
+        polls: c.settings.polls,
+        app: false,
+    };
+    let mut next = with_erase(with_kept(with_bus(c, bus), no_bits()), no_erase());
+    next.length = 512;
+    next.written = 0;
+    next
+}

@@ -1,0 +1,100 @@
+-- Responses that an encoder sends: there is room, each field fits or is cut to its width, and they are what the step shows.
+use mathlib.Core.Path.{_≡_, sym, ap, ap₂, _∙_}
+use mathlib.Core.Bool.{Bool, true}
+use mathlib.Core.List.{List, [], _∷_, _++_}
+use Prim.Native.Nat.{ℕ, _/_, _%_, _^_, _<_, _≤_}
+use native.Mathlib.Nat.{mod-mod}
+use native.Mathlib.Omega.{arith}
+use borrow.Author.Tests.{le-ltb, lt-ltb}
+use lib.Dec.{eqb}
+use lib.ListN.{length, drop}
+use lib.Pow.{mod-mod-pow}
+use Rattle.crc.specs.Bits.{bits, number, bytes, Bytes}
+use Rattle.crc.proofs.Bits.{bits-cong}
+use Rattle.codec.specs.declared.Encoded.{Encoded}
+use Rattle.codec.specs.Answer.{Encoding, encoding, encoded, emit, done}
+use Rattle.codec.specs.Layout.{write, fits}
+use Rattle.codec.specs.Format.{Format, encode, image, ended, crc7From}
+use Rattle.wire_response.specs.Response.{r1, r2, r3, r6, r7}
+use Rattle.wire_response.specs.Status.{shortStatus}
+use Rattle.wire_response.proofs.Registers.{fits-bytes}
+use Rattle.card_model.specs.declared.answer.Answer.{Answer}
+use Rattle.card_model.specs.Frame as Frame
+use Rattle.card_model.specs.Step as Step
+use Rattle.card_model.specs.Step.{answer, silent, wire, replyOf}
+use Rattle.card_respond.specs.Sent.{carried, Sends}
+
+pub sends : (f : Format) (vs s out after : List ℕ) (e : Encoded) (a : Answer) → encoding e after ≡ encode f vs out → 17 ≤ length out
+    → fits (f .slots) vs ≡ true → image f vs ≡ s → answer a ≡ carried (encoded e) → Sends s out after a
+unfolding encode
+sends f vs s out after e a h room fit im said =
+    let g : encoding e after ≡ emit s out = h ∙ rw (le-ltb (length out) 17 room, fit) (ap (λ (x : List ℕ). emit x out) im) in
+    record { count = said ∙ ap (λ (x : Encoding). carried (x .answer)) g; buffer = ap (λ (x : Encoding). x .buffer) g }
+
+-- ---- fields that fit
+
+pub fits-r1 : (i w : ℕ) → i < 64 → w < 2 ^ 32 → fits (r1 i .slots) (w ∷ []) ≡ true
+unfolding fits
+fits-r1 i w h k = simp (lt-ltb i 64 h, lt-ltb w (2 ^ 32) k)
+
+pub fits-r2 : (vs : List ℕ) → length vs ≡ 15 → Bytes vs → fits (r2 .slots) vs ≡ true
+unfolding fits
+fits-r2 vs l b = fits-bytes 15 vs l b
+
+pub fits-r3 : (w : ℕ) → w < 2 ^ 32 → fits (r3 .slots) (w ∷ []) ≡ true
+unfolding fits
+fits-r3 w k = simp (lt-ltb w (2 ^ 32) k)
+
+pub fits-r6 : (a s : ℕ) → a < 2 ^ 16 → s < 2 ^ 16 → fits (r6 .slots) (a ∷ (s ∷ [])) ≡ true
+unfolding fits
+fits-r6 a s h k = simp (lt-ltb a (2 ^ 16) h, lt-ltb s (2 ^ 16) k)
+
+pub fits-r7 : (v p : ℕ) → v < 2 ^ 4 → p < 2 ^ 8 → fits (r7 .slots) (v ∷ (p ∷ [])) ≡ true
+unfolding fits
+fits-r7 v p h k = simp (lt-ltb v (2 ^ 4) h, lt-ltb p (2 ^ 8) k)
+
+-- ---- fields that are cut
+
+cut : (w n : ℕ) → bits w (n % 2 ^ w) ≡ bits w n
+cut w n = bits-cong w (n % 2 ^ w) n (mod-mod n (2 ^ w))
+
+-- six bytes with a check
+abbrev six : List Bool → List ℕ
+six bs = bytes 6 (bs ++ ended (crc7From 0) bs)
+
+pub image-r1 : (i w : ℕ) → image (r1 (i % 2 ^ 6)) (w % 2 ^ 32 ∷ []) ≡ image (r1 i) (w ∷ [])
+unfolding image write
+image-r1 i w = ap₂ (λ (x y : List Bool). six (bits 1 0 ++ (bits 1 0 ++ (x ++ (y ++ []))))) (cut 6 i) (cut 32 w)
+
+pub image-r7 : (v p : ℕ) → image r7 (v % 2 ^ 4 ∷ (p ∷ [])) ≡ image r7 (v ∷ (p ∷ []))
+unfolding image write
+image-r7 v p = ap (λ (x : List Bool). six (bits 1 0 ++ (bits 1 0 ++ (bits 6 8 ++ (bits 20 0 ++ (x ++ (bits 8 p ++ []))))))) (cut 4 v)
+
+-- the short status lies below bit 32
+pub short-cut : (w : ℕ) → shortStatus (w % 2 ^ 32) ≡ shortStatus w
+unfolding shortStatus
+short-cut w =
+    let a : w % 2 ^ 32 / 2 ^ 23 % 2 ≡ w / 2 ^ 23 % 2 = omega arith in
+    let b : w % 2 ^ 32 / 2 ^ 22 % 2 ≡ w / 2 ^ 22 % 2 = omega arith in
+    let c : w % 2 ^ 32 / 2 ^ 19 % 2 ≡ w / 2 ^ 19 % 2 = omega arith in
+    rw (a, b, c) (ap (λ (x : List Bool). number (eqb (w / 2 ^ 23 % 2) 1 ∷ (eqb (w / 2 ^ 22 % 2) 1 ∷ (eqb (w / 2 ^ 19 % 2) 1 ∷ x))))
+    (bits-cong 13 (w % 2 ^ 32) w (mod-mod-pow w 19 13)))
+
+-- ---- messages
+
+-- the step shows a message as the bytes that were sent
+module _ (crc : Bool) (n k : Frame.Message) (e : n ≡ k) (out : List ℕ) where
+  pub shows : (s after : List ℕ) (a : Answer) → wire crc k ≡ s → replyOf crc k ≡ Step.sent (length (wire crc k)) → Sends s out after a
+      → (answer a ≡ done (replyOf crc n)) × (after ≡ wire crc n ++ drop (length (wire crc n)) out)
+  shows s after a w r h = (
+    h .count ∙ ap done (sym (ap (replyOf crc) e ∙ r ∙ ap (λ (x : List ℕ). Step.sent (length x)) w)),
+    h .buffer ∙ ap (λ (x : List ℕ). x ++ drop (length x) out) (sym (ap (wire crc) e ∙ w)),
+  )
+
+pub shows-silence : (crc : Bool) (n : Frame.Message) (out : List ℕ) → n ≡ Frame.silence
+    → (done silent ≡ done (replyOf crc n)) × (out ≡ wire crc n ++ drop (length (wire crc n)) out)
+unfolding wire replyOf
+shows-silence crc n out e = (
+  ap (λ (x : Frame.Message). done (replyOf crc x)) (sym e),
+  ap (λ (x : Frame.Message). wire crc x ++ drop (length (wire crc x)) out) (sym e),
+)

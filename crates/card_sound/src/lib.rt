@@ -1,0 +1,82 @@
+// Which records are unsound.
+ghost use mathlib.Core.Path.{_≡_};
+ghost use lib.ListN.{take, drop};
+ghost use Rattle.card_model.specs.Soundness.{unsound, unsoundTests, anyOf};
+
+mod marks;
+mod state;
+
+use card_model::card::Core;
+use card_settings::allowed;
+use card_settings::csd_of;
+
+// The settings, the polls left, the block length, and the transfer.
+fn unsound_first(c: Core) -> bool
+    ensures { λ r. ⌜ r ≡ anyOf (take 5 (unsoundTests c)) ⌝ }
+{
+    let s = c.settings;
+    if !allowed(s) {
+        return true;
+    }
+    let own = c.csd;
+    if !card_settings::register::same(own, csd_of(s)) {
+        return true;
+    }
+    let bus = c.bus;
+    if s.polls < bus.polls {
+        return true;
+    }
+    if c.length < 1 {
+        return true;
+    }
+    if c.length > 512 {
+        return true;
+    }
+    let state = bus.state;
+    if state::capacity(s.blocks) < state::transfer_address(state) as u64 {
+        return true;
+    }
+    state::off_block(state)
+}
+
+// The blocks written, the erase addresses, the card's address, the marks, and the application mark.
+fn unsound_rest(c: Core) -> bool
+    ensures { λ r. ⌜ r ≡ anyOf (drop 5 (unsoundTests c)) ⌝ }
+{
+    let blocks = c.settings.blocks;
+    let bus = c.bus;
+    let state = bus.state;
+    if blocks < c.written {
+        return true;
+    }
+    if state::written_most(state, blocks) < c.written {
+        return true;
+    }
+    let erase = c.erase;
+    let first = erase.first;
+    if state::outside(state::capacity(blocks), first) {
+        return true;
+    }
+    let second = erase.second;
+    if state::outside(state::capacity(blocks), second) {
+        return true;
+    }
+    if state::bad_rca(state, bus.rca) {
+        return true;
+    }
+    let marks = c.marks;
+    if marks::marked_from(marks, marks::groups(blocks)) {
+        return true;
+    }
+    state::bad_app(state, bus.app)
+}
+
+// The items of 01's list that a record can break, in its order.
+pub fn unsound(c: Core) -> bool
+    ensures { λ r. ⌜ r ≡ unsound c ⌝ }
+{
+    if unsound_first(c) {
+        return true;
+    }
+    unsound_rest(c)
+}

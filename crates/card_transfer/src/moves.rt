@@ -1,0 +1,26 @@
+// A move by the transition table, to the state that the command's row gives.
+ghost use mathlib.Core.Path.{_≡_};
+ghost use Rattle.card_model.specs.Execute.{moved, opened};
+use card_model::card::Core;
+use card_model::card::State;
+use card_model::command::Command;
+use card_record::with_state;
+use card_table::after;
+
+// A plain move, with no transfer of its own.
+pub fn moved(command: Command, c: Core) -> Core
+    ensures { λ r. ⌜ r ≡ moved command c ⌝ }
+{
+    let bus = c.bus;
+    let state = bus.state;
+    with_state(c, after(command, state, state))
+}
+
+// A move that opens the transfer `t`.
+pub fn opened(command: Command, c: Core, t: State) -> Core
+    ensures { λ r. ⌜ r ≡ opened command c t ⌝ }
+{
+    let bus = c.bus;
+    let state = bus.state;
+    with_state(c, after(command, state, t))
+}

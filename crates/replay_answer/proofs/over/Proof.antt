@@ -1,0 +1,18 @@
+-- What busy over does, told on the line.
+use borrow.Author.Needs.{needs}
+use Rattle.replay_write.specs.declared.Kind.the-variants.{Response}
+use Rattle.replay_answer.proofs.Told.{told-by}
+use Rattle.replay_answer.proofs.over.Statement.{statement}
+use Rattle.replay_answer.proofs.over.Tie as tie
+
+pub over-spec : {M : Type 1} → statement M
+over-spec =
+    tie.close
+    (tie.spec
+    (λ c κs. search needs)
+    (λ c. search needs)
+    (λ c κs. search needs)
+    (λ c. search needs)
+    (λ c.
+    let call = c .before .before .before .before .before .busy-over in
+    told-by Response (call .result) _ _ _ _ _ (c .before .before .tell .ensures _) (call .ensures)))

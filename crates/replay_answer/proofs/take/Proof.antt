@@ -1,0 +1,19 @@
+-- What is taken, told on the line.
+use borrow.Author.Needs.{needs}
+use Rattle.replay_write.specs.declared.Kind.the-variants.{Block}
+use Rattle.replay_answer.proofs.Told.{told-by}
+use Rattle.replay_answer.proofs.take.Statement.{statement}
+use Rattle.replay_answer.proofs.take.Tie as tie
+
+pub take-spec : {M : Type 1} → statement M
+take-spec =
+    tie.close
+    (tie.spec
+    (λ c. search needs)
+    (λ c κs. search needs)
+    (λ c. search needs)
+    (λ c κs. search needs)
+    (λ c. search needs)
+    (λ c.
+    let call = c .before .before .before .before .before .before .take in
+    told-by Block (call .result) _ _ _ _ _ (c .before .before .tell .ensures _) (call .ensures)))

@@ -1,0 +1,56 @@
+// A call's record, and its answer as a line of output.
+ghost use mathlib.Core.Path.{_≡_};
+ghost use mathlib.Core.List.{List};
+ghost use Prim.Native.Nat.{ℕ};
+ghost use lib.ListN.{replicate};
+ghost use Rattle.card_model.specs.Step.{answer, step, takeBlock, busyOver};
+ghost use Rattle.replay_write.specs.Write.{written};
+ghost use Rattle.replay_write.specs.declared.Kind.the-variants.{Response, Block};
+ghost use Rattle.replay_answer.specs.Told.{played, shown, onText};
+use card_call::Stepped;
+use card_model::card::Card;
+use codec::Encoded;
+use replay_write::Kind;
+
+pub struct Replayed {
+    pub card: Card,
+    // how many bytes of the text were written
+    pub wrote: Encoded,
+}
+
+pub fn tell(kind: Kind, s: Stepped, out: &[u8], text: &mut [u8]) -> Replayed
+    ensures { λ r.
+        ⌜ ((memory : List ℕ)
+        → shown r memory (now (text .exit))
+        ≡ onText (record {
+          world = record { card = s .card; memory = memory };
+          text = written kind (answer (s .answer)) (now (out .entry));
+        }) (now (text .entry))) ⌝ }
+{
+    let answer = s.answer;
+    let card = s.card;
+    Replayed {
+        card: card,
+        wrote: replay_write::write(kind, answer, out, text),
+    }
+}
+
+pub fn take(card: Card, memory: &[u8], text: &mut [u8]) -> Replayed
+    ensures { λ r.
+        ⌜ shown r (now (memory .entry)) (now (text .exit))
+        ≡ onText (played Block (step (record { card = card; memory = now (memory .entry) }) (takeBlock (replicate 514 0))))
+        (now (text .entry)) ⌝ }
+{
+    let mut out: [u8; 514] = [0; 514];
+    let s = card_take::take(card, memory, &mut out);
+    tell(Kind::Block, s, &out, text)
+}
+
+pub fn over(card: Card, memory: &[u8], text: &mut [u8]) -> Replayed
+    ensures { λ r.
+        ⌜ shown r (now (memory .entry)) (now (text .exit))
+        ≡ onText (played Response (step (record { card = card; memory = now (memory .entry) }) busyOver)) (now (text .entry)) ⌝ }
+{
+    let s = card_power::busy_over(card, memory);
+    tell(Kind::Response, s, &[], text)
+}

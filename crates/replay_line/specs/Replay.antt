@@ -1,0 +1,32 @@
+-- Line by line: each line of input gives one call of the step that the histories run, and one line of output.
+use mathlib.Core.Bool.{cond}
+use mathlib.Core.List.{List}
+use Prim.Native.Nat.{ℕ}
+use lib.Dec.{ltb}
+use lib.ListN.{length, replicate}
+use Rattle.codec.specs.Answer.{BUFFER, refuse}
+use Rattle.card_model.specs.Step.{World, commandFrame, blockIn, takeBlock, busyOver, step}
+use Rattle.replay_read.specs.Read.{Line, cmd, blk, takeLine, overLine, unreadable, readLine}
+use Rattle.replay_write.specs.declared.Kind.the-variants.{Response, Block}
+use Rattle.replay_write.specs.Write.{refusal}
+use Rattle.replay_answer.specs.Told.{Played, Shown, played, onText}
+
+-- the output buffers are zero before each call, and as long as row 4 asks for
+unfoldable pub play : World → Line → Played
+play w (cmd frame) = played Response (step w (commandFrame frame (replicate 17 0)))
+play w (blk s) = played Response (step w (blockIn s))
+play w takeLine = played Block (step w (takeBlock (replicate 514 0)))
+play w overLine = played Response (step w busyOver)
+play w unreadable = record { world = w; text = refusal 1 }
+
+abbrev pub replayed : World → List ℕ → Played
+replayed w line = play w (readLine line)
+
+-- the longest line of output: a word, a tab, 1,028 digits, a newline
+abbrev pub ROOM : ℕ
+ROOM = 1033
+
+-- a text that has no room for the longest line is refused before the card is called (row 4)
+unfoldable pub playLine : World → List ℕ → List ℕ → Shown
+playLine w line text =
+    cond (ltb (length text) ROOM) (record { line = refuse BUFFER text; world = w }) (onText (replayed w line) text)

@@ -1,0 +1,142 @@
+-- The command frame: its first byte has start bit 0, transmission bit 1 and the index; its check comes after these.
+use mathlib.Core.Path.{_≡_, refl, sym, ap, ap₂, _∙_}
+use mathlib.Core.Bool.{Bool, true, false, cond, _&&_, and-eq-true-iff, and-true}
+use mathlib.Core.List.{List, [], _∷_, _++_}
+use Prim.Native.Nat.{ℕ, _/_, _%_, _^_, _<_}
+use native.Mathlib.Nat.{mod-eq-of-lt}
+use native.Mathlib.Omega.{arith}
+use borrow.Author.Tests.{eqb-true, eq-eqb, lt-ltb, ltb-true}
+use lib.Bits.{bitAnd, bitOr, and-mask, mask-lt, or-shifted}
+use lib.Dec.{eqb, ltb}
+use lib.ListN.{length, getD, take, drop}
+use Rattle.crc.specs.Bits.{bits, bitsOf, Bytes}
+use Rattle.crc.specs.Crc.{crc, poly7}
+use Rattle.crc.proofs.Bits.{bits-join}
+use Rattle.codec.specs.Answer.{Outcome, done, refused, SIZE, WRONG}
+use Rattle.codec.specs.Layout.{Slot, field, fixed, width, write, read, judged, fits}
+use Rattle.codec.specs.Format.{right, encode, decode}
+use Rattle.codec.proofs.Bits.{test-eq, both}
+use Rattle.codec.proofs.Words.{within, judgedIn, read-word, judged-word}
+use Rattle.wire_frame.specs.Command.{command, frameCheck}
+use Rattle.wire_frame.specs.Frame.{closing, sent}
+use Rattle.wire_frame.specs.declared.command.FrameCheck.{FrameCheck}
+use Rattle.wire_frame.specs.declared.command.FrameCheck.the-variants.{Good, Size, Start, Check}
+use Rattle.wire_frame.proofs.Frames.{content, bitsOf-first, content-lt, read-content, same-last, encode-sent, image-frame, right-frame}
+
+-- ---- the first byte
+
+first-byte : List Slot
+first-byte = fixed 1 0 ∷ (fixed 1 1 ∷ (field 6 ∷ []))
+
+start-byte : (b : ℕ) → b < 256 → judgedIn first-byte 8 b ≡ eqb (b / 2 ^ 6) 1
+unfolding judgedIn first-byte
+start-byte b h =
+    let start = eqb (b / 2 ^ 7 % 2 ^ 1) 0 in
+    let sent = eqb (b / 2 ^ 6 % 2 ^ 1) 1 in
+    test-eq (judgedIn first-byte 8 b) (eqb (b / 2 ^ 6) 1)
+    (λ e.
+    let (p, e1) = and-eq-true-iff start (sent && true) .0 e in
+    let (q, e2) = and-eq-true-iff sent true .0 e1 in
+    let p1 : b / 2 ^ 7 % 2 ^ 1 ≡ 0 = eqb-true (b / 2 ^ 7 % 2 ^ 1) 0 p in
+    let q1 : b / 2 ^ 6 % 2 ^ 1 ≡ 1 = eqb-true (b / 2 ^ 6 % 2 ^ 1) 1 q in
+    let b7 : b / 2 ^ 7 ≡ 0 = sym (mod-eq-of-lt {n = b / 2 ^ 7} (omega arith)) ∙ p1 in
+    eq-eqb (b / 2 ^ 6) 1 (sym (mod-eq-of-lt {n = b / 2 ^ 6} (omega arith)) ∙ q1))
+    (λ e.
+    let e1 : b / 2 ^ 6 ≡ 1 = eqb-true (b / 2 ^ 6) 1 e in
+    both (eq-eqb (b / 2 ^ 7 % 2 ^ 1) 0 (omega arith)) (both (eq-eqb (b / 2 ^ 6 % 2 ^ 1) 1 (omega arith)) refl))
+
+judged-command : (s : List ℕ) → length s ≡ 6 → Bytes s → judged (command .slots) (bitsOf s) ≡ eqb (getD s 0 0 / 2 ^ 6) 1
+unfolding width judged first-byte
+judged-command s h b =
+    ap (judged (command .slots)) (bitsOf-first s (omega arith))
+    ∙ judged-word first-byte (field 32 ∷ []) (getD s 0 0) (bitsOf (drop 1 s))
+    ∙ and-true (judgedIn first-byte 8 (getD s 0 0))
+    ∙ start-byte (getD s 0 0) (b 0)
+
+-- index and argument
+read-command : (s : List ℕ) → length s ≡ 6 → read (command .slots) (bitsOf s) ≡ bitAnd (getD s 0 0) 63 ∷ (content s ∷ [])
+unfolding width within read first-byte
+read-command s h =
+    ap (read (command .slots)) (bitsOf-first s (omega arith))
+    ∙ read-word first-byte (field 32 ∷ []) (getD s 0 0) (bitsOf (drop 1 s))
+    ∙ ap (λ (r : List ℕ). getD s 0 0 / 2 ^ 0 % 2 ^ 6 ∷ r) (read-content (field 32 ∷ []) [] s refl h)
+    ∙ ap₂ (λ (x y : ℕ). x ∷ (y ∷ []))
+    (sym (and-mask (getD s 0 0) 6 ∙ omega arith))
+    (omega (arith, content-lt s h))
+
+-- ---- the frame check
+
+-- a check that is looked at only behind a right start
+behind : (p q : Bool) → cond p (cond (p && q) Good Check) Start ≡ cond p (cond q Good Check) Start
+behind true q = refl
+behind false q = refl
+
+module _ (s : List ℕ) (h : length s ≡ 6) (b : Bytes s) where
+  pub frameCheck-start : frameCheck s ≡ cond (eqb (getD s 0 0 / 2 ^ 6) 1) (cond (right command s) Good Check) Start
+  unfolding frameCheck
+  frameCheck-start =
+      ap₂ (λ (t j : Bool). cond t (cond j (cond (right command s) Good Check) Start) Size) (eq-eqb (length s) 6 h) (judged-command s h b)
+
+  pub frameCheck-bytes : (c : ℕ) → c < 256 → bits 8 c ≡ crc poly7 (bitsOf (take 5 s)) ++ (true ∷ [])
+      → frameCheck s ≡ cond (eqb (getD s 0 0 / 2 ^ 6) 1) (cond (eqb (getD s 5 0) c) Good Check) Start
+  unfolding closing width
+  frameCheck-bytes c hc e =
+      let p = eqb (getD s 0 0 / 2 ^ 6) 1 in
+      frameCheck-start
+      ∙ ap (λ (q : Bool). cond p (cond q Good Check) Start)
+      (right-frame (command .slots) s refl ∙ ap₂ (λ (t q : Bool). t && q) (judged-command s h b) (same-last true s c h b hc e))
+      ∙ behind p (eqb (getD s 5 0) c)
+
+-- what the decoder makes of the check and the fields
+abbrev pub answered : FrameCheck → List ℕ → Outcome (List ℕ)
+answered Good vs = done vs
+answered Size vs = refused SIZE
+answered Start vs = refused WRONG
+answered Check vs = refused WRONG
+
+decode-answered : (s : List ℕ) → decode command s ≡ answered (frameCheck s) (read (command .slots) (bitsOf s))
+unfolding decode frameCheck right
+decode-answered s = go (eqb (length s) 6) (judged (command .slots) (bitsOf s)) _
+  where
+    vs : List ℕ
+    vs = read (command .slots) (bitsOf s)
+
+    go : (t j q : Bool) → cond t (cond (j && q) (done vs) (refused WRONG)) (refused SIZE) ≡ answered (cond t (cond j (cond (j && q) Good Check) Start) Size) vs
+    go false j q = refl
+    go true false q = refl
+    go true true true = refl
+    go true true false = refl
+
+pub decode-checked : (s : List ℕ) (k : FrameCheck) → k ≡ frameCheck s → decode command s ≡ answered k (read (command .slots) (bitsOf s))
+decode-checked s k e = decode-answered s ∙ ap (λ (x : FrameCheck). answered x (read (command .slots) (bitsOf s))) (sym e)
+
+pub good-size : (s : List ℕ) → Good ≡ frameCheck s → length s ≡ 6
+unfolding frameCheck
+good-size s e = go (eqb (length s) 6) refl e
+  where
+    go : (t : Bool) → eqb (length s) 6 ≡ t → Good ≡ cond t (cond (judged (command .slots) (bitsOf s)) (cond (right command s) Good Check) Start) Size → length s ≡ 6
+    go true h e = eqb-true (length s) 6 h
+    go false h e = let z : _≡_ {A = ℕ} 0 1 = cc in absurd (omega arith)
+
+pub decode-good : (s : List ℕ) → Good ≡ frameCheck s → decode command s ≡ done (bitAnd (getD s 0 0) 63 ∷ (content s ∷ []))
+decode-good s e = decode-checked s Good e ∙ ap done (read-command s (good-size s e))
+
+-- ---- sending
+
+write-command : (index argument : ℕ) → index < 64
+    → write (command .slots) (index ∷ (argument ∷ [])) ≡ bits 8 (bitOr 64 (bitAnd index 63)) ++ bits 32 argument
+unfolding write bits
+write-command index argument h =
+    ap (λ (x : List Bool). x ++ bits 32 argument)
+    (sym
+    (ap (bits 8) (or-shifted 1 6 (bitAnd index 63) (mask-lt index 6))
+    ∙ bits-join 2 6 1 (bitAnd index 63) (mask-lt index 6)
+    ∙ ap (λ (x : ℕ). bits 2 1 ++ bits 6 x) (and-mask index 6 ∙ mod-eq-of-lt h)))
+
+pub encode-command : (index argument : ℕ) (out : List ℕ) → argument < 2 ^ 32
+    → encode command (index ∷ (argument ∷ [])) out ≡ sent (ltb index 64) true (bitOr 64 (bitAnd index 63)) argument out
+unfolding fits
+encode-command index argument out h =
+    encode-sent command (index ∷ (argument ∷ [])) out (ltb index 64) true (bitOr 64 (bitAnd index 63)) argument
+    (simp (lt-ltb argument (2 ^ 32) h, and-true))
+    (λ t. image-frame (command .slots) (index ∷ (argument ∷ [])) (bitOr 64 (bitAnd index 63)) argument (write-command index argument (ltb-true index 64 t)))

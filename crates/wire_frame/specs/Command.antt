@@ -1,0 +1,29 @@
+-- Command frames: start 0, transmission 1, 6-bit index, 32-bit argument, CRC7, end 1.
+use mathlib.Core.Bool.{cond}
+use mathlib.Core.List.{List, [], _∷_}
+use Prim.Native.Nat.{ℕ}
+use lib.Dec.{eqb}
+use lib.ListN.{length}
+use Rattle.crc.specs.Bits.{bitsOf}
+use Rattle.codec.specs.Answer.{Outcome, done, refused}
+use Rattle.codec.specs.Layout.{field, fixed, judged}
+use Rattle.codec.specs.Format.{Format, crc7From, right}
+use Rattle.wire_frame.specs.declared.command.FrameCheck.{FrameCheck}
+use Rattle.wire_frame.specs.declared.command.FrameCheck.the-variants.{Good, Size, Start, Check}
+use Rattle.wire_frame.specs.declared.command.CommandRead.{CommandRead}
+use Rattle.wire_frame.specs.declared.command.CommandRead.the-variants.{Command, Refused}
+
+abbrev pub command : Format
+command = record {
+  size = 6;
+  slots = fixed 1 0 ∷ fixed 1 1 ∷ field 6 ∷ field 32 ∷ [];
+  ending = crc7From 0;
+}
+
+-- the frame rules' order: size; start or transmission bit; check or end bit
+unfoldable pub frameCheck : List ℕ → FrameCheck
+frameCheck s = cond (eqb (length s) 6) (cond (judged (command .slots) (bitsOf s)) (cond (right command s) Good Check) Start) Size
+
+abbrev pub commandRead : CommandRead → Outcome (List ℕ)
+commandRead (Command index argument) = done (index ∷ argument ∷ [])
+commandRead (Refused k) = refused k

@@ -1,0 +1,58 @@
+// Command frames, and the frame check that decoder and card share.
+ghost use mathlib.Core.Path.{_≡_};
+ghost use mathlib.Core.List.{[], _∷_};
+ghost use Rattle.codec.specs.Answer.{encoding};
+ghost use Rattle.codec.specs.Format.{encode, decode};
+ghost use Rattle.wire_frame.specs.Command.{command, commandRead, frameCheck};
+use codec::Encoded;
+
+// What is wrong with a frame; the card treats the kinds differently.
+pub enum FrameCheck {
+    Good,
+    Size,
+    // start or transmission bit
+    Start,
+    // check or end bit
+    Check,
+}
+
+// A command that was decoded, or the number of the refusal.
+pub enum CommandRead {
+    Command { index: u8, argument: u32 },
+    Refused(u8),
+}
+
+pub fn check(s: &[u8]) -> FrameCheck
+    ensures { λ r. ⌜ r ≡ frameCheck (now (s .entry)) ⌝ }
+{
+    if s.len() != 6 {
+        return FrameCheck::Size;
+    }
+    if s[0] >> 6 != 1 {
+        return FrameCheck::Start;
+    }
+    if s[5] != codec::seal(&s[0..5]) {
+        return FrameCheck::Check;
+    }
+    FrameCheck::Good
+}
+
+pub fn encode(index: u8, argument: u32, out: &mut [u8]) -> Encoded
+    ensures { λ r. ⌜ encoding r (now (out .exit)) ≡ encode command (index ∷ argument ∷ []) (now (out .entry)) ⌝ }
+{
+    crate::frame::send(index < 64, true, 0x40 | (index & 0x3F), argument, out)
+}
+
+pub fn decode(s: &[u8]) -> CommandRead
+    ensures { λ r. ⌜ commandRead r ≡ decode command (now (s .entry)) ⌝ }
+{
+    match check(s) {
+        FrameCheck::Size => CommandRead::Refused(codec::SIZE),
+        FrameCheck::Start => CommandRead::Refused(codec::WRONG),
+        FrameCheck::Check => CommandRead::Refused(codec::WRONG),
+        FrameCheck::Good => CommandRead::Command {
+            index: s[0] & 0x3F,
+            argument: codec::word(&s[1..5]) as u32,
+        },
+    }
+}
