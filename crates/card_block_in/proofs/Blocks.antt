@@ -1,44 +1,82 @@
--- The block's check, and the part of memory that it is stored to.
-use mathlib.Core.Path.{_≡_, refl, sym, ap, ap₂, _∙_}
+-- The block's check and payload, and what the store leaves.
+use mathlib.Core.Path.{_≡_, refl, sym, ap, _∙_}
 use mathlib.Core.Bool.{Bool, true, false, cond}
-use mathlib.Core.List.{List, _++_, append-nil}
+use mathlib.Core.List.{List}
 use Prim.Native.Nat.{ℕ, _+_, _-_, _≤_}
 use native.Mathlib.Omega.{arith}
 use borrow.Author.Tests.{le-leb}
-use borrow.Rule.Slice.PartMut.{midOf, putMid, mid-len, post-is}
-use lib.Dec.{eqb}
-use lib.ListN.{length, take, drop, drop-of-length-le}
-use lib.Seq.{take-all, length-take-le}
-use Rattle.codec.specs.Answer.{done, refused, WRONG, why}
-use Rattle.wire_packet.specs.Packet.{payloadOf, packetRight, decodePacket}
+use lib.ListN.{length}
+use lib.Seq.{length-take-le}
+use Rattle.codec.specs.Answer.{done, refused, WRONG, why, part}
+use Rattle.wire_packet.specs.Packet.{CHECK, payloadOf, packetRight, decodePacket}
 use Rattle.card_model.specs.declared.card.Core.{Core}
-use Rattle.card_model.specs.Execute.{store}
-use Rattle.card_model.specs.Step.{affected}
+use Rattle.card_model.specs.declared.done.Effect.the-variants.{Store}
+use Rattle.card_model.specs.declared.state.State.{State}
+use Rattle.card_model.specs.Settings.{BLOCK}
+use Rattle.card_model.specs.Record.{withState}
+use Rattle.card_model.specs.Status.{OUT-OF-RANGE, WP-VIOLATION}
+use Rattle.card_model.specs.Effects.{Stored, stored, over, affected}
+use Rattle.card_effect.specs.Apply.{reaches}
 
--- the decoder's number is 0 exactly if the check is the payload's
-pub right-zero : (p : List ℕ) → length p ≡ 514 → eqb (why (decodePacket p)) 0 ≡ packetRight p
-unfolding decodePacket
-right-zero p h = rw (le-leb 3 (length p) (omega arith), le-leb (length p) 514 (omega arith)) (number (packetRight p))
-  where
-    number : (b : Bool) → eqb (why (cond b (done (payloadOf p)) (refused WRONG))) 0 ≡ b
-    number true = refl
-    number false = refl
+module _ (p : List ℕ) (long : length p ≡ BLOCK + CHECK) where
+  judged : decodePacket p ≡ cond (packetRight p) (done (payloadOf p)) (refused WRONG)
+  unfolding decodePacket
+  judged = rw (le-leb 3 (length p) (omega arith), le-leb (length p) 514 (omega arith))
 
--- a payload of 512 bytes copied into the part that is lent for it
-pub stored-part : (c : Core) (a : ℕ) (memory p part : List ℕ) → a + 512 ≤ length memory → length p ≡ 514
-    → part
-    ≡ take (length (midOf a (a + 512 - a) memory)) (take 512 p) ++ drop (length (take 512 p)) (midOf a (a + 512 - a) memory)
-    → putMid a (a + 512 - a) memory part ≡ affected c (store a (payloadOf p)) memory
-unfolding affected payloadOf
-stored-part c a memory p part h l e =
-    let payload = take 512 p in
-    let k : length p - 2 ≡ 512 = omega arith in
-    let back : a + 512 - a ≡ 512 = omega arith in
-    let n : length payload ≡ 512 = length-take-le 512 p (omega arith) in
-    let m : length (midOf a (a + 512 - a) memory) ≡ 512 = mid-len a (a + 512) memory h ∙ back in
-    let whole : part ≡ payload =
-    e
-    ∙ ap₂ (λ (x y : List ℕ). x ++ y) (take-all (length (midOf a (a + 512 - a) memory)) payload (omega arith)) (drop-of-length-le (midOf a (a + 512 - a) memory) {i = length payload} (omega arith))
-    ∙ append-nil payload in
-    ap₂ (λ (x y : List ℕ). take a memory ++ (x ++ y)) whole (post-is a (a + 512) memory (omega arith) ∙ ap (λ (j : ℕ). drop (a + j) memory) (sym n))
-    ∙ ap (λ (j : ℕ). take a memory ++ (take j p ++ drop (a + length (take j p)) memory)) (sym k)
+  -- the decoder's number is 0 exactly if the check is the payload's
+  pub right : why (decodePacket p) ≡ 0 → packetRight p ≡ true
+  right e = go (packetRight p) (sym (ap why judged) ∙ e)
+    where
+      go : (b : Bool) → why (cond b (done (payloadOf p)) (refused WRONG)) ≡ 0 → b ≡ true
+      go true e = refl
+      go false e = absurd (omega arith)
+
+  pub wrong : (why (decodePacket p) ≡ 0 → ⊥) → packetRight p ≡ false
+  wrong n = go (packetRight p) (λ e. n (ap why judged ∙ e))
+    where
+      go : (b : Bool) → (why (cond b (done (payloadOf p)) (refused WRONG)) ≡ 0 → ⊥) → b ≡ false
+      go true n = absurd (n refl)
+      go false n = refl
+
+  pub payload : why (decodePacket p) ≡ 0 → part (decodePacket p) ≡ payloadOf p
+  payload e = ap part judged ∙ rw (right e)
+
+  pub length-payload : length (payloadOf p) ≡ BLOCK
+  unfolding payloadOf
+  length-payload = let k : length p - 2 ≡ BLOCK = omega arith in length-take-le (length p - 2) p (omega arith) ∙ k
+
+-- a store that reaches no further than memory
+pub stored-in : (all : Bool) (a : ℕ) (s memory marks memory' marks' : List ℕ) → a + length s ≤ length memory
+    → stored memory' marks'
+    ≡ cond (reaches (Store a) (length s) (length memory)) (affected all (Store a) s (stored memory marks)) (stored memory marks)
+    → memory' ≡ over memory a s
+unfolding affected
+stored-in all a s memory marks memory' marks' h e =
+    ap (λ (m : Stored). m .memory)
+    (e
+    ∙ ap (λ (b : Bool). cond b (affected all (Store a) s (stored memory marks)) (stored memory marks)) (le-leb (a + length s) (length memory) h))
+
+-- the state is chosen, or the record
+pub choice : (c : Core) (b : Bool) (s t : State) → cond b (withState c s) (withState c t) ≡ withState c (cond b s t)
+choice c true s t = refl
+choice c false s t = refl
+
+-- ---- the bit of a place
+
+abbrev pub bitOf : Bool → Bool → ℕ
+bitOf past kept = cond past OUT-OF-RANGE (cond kept WP-VIOLATION 0)
+
+pub held-by : {T : Type 0} (f : ℕ → T) (free : T) (past kept : Bool) → (bitOf past kept ≡ 0 → ⊥)
+    → f (bitOf past kept) ≡ cond past (f OUT-OF-RANGE) (cond kept (f WP-VIOLATION) free)
+held-by f free true kept n = refl
+held-by f free false true n = refl
+held-by f free false false n = absurd (n refl)
+
+pub inside : (past kept : Bool) → bitOf past kept ≡ 0 → past ≡ false
+inside true kept e = absurd (omega arith)
+inside false kept e = refl
+
+pub unkept : (past kept : Bool) → bitOf past kept ≡ 0 → kept ≡ false
+unkept true kept e = absurd (omega arith)
+unkept false true e = absurd (omega arith)
+unkept false false e = refl

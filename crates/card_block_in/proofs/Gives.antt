@@ -1,67 +1,51 @@
--- Block in: what a sound record gives the transfer, its refusals, and where it leads.
-use mathlib.Core.Path.{_≡_, ap, _∙_}
-use mathlib.Core.Bool.{true, false}
-use mathlib.Core.List.{List, []}
-use mathlib.Core.Option.{none, some}
-use Prim.Native.Nat.{ℕ, _*_, _%_}
+-- What the rows of a block in that do not apply tell.
+use mathlib.Core.Path.{_≡_, refl, ap, _∙_}
+use mathlib.Core.Bool.{Bool, false, not}
+use mathlib.Core.List.{List}
+use mathlib.Core.Option.{none}
+use Prim.Native.Nat.{ℕ, _%_}
 use native.Mathlib.Omega.{arith}
-use borrow.Author.Tests.{eq-eqb, ne-eqb, eqb-true, not-false}
+use borrow.Author.Tests.{eqb-true, not-false}
+use lib.Dec.{eqb}
 use lib.ListN.{length}
-use Rattle.card_model.specs.declared.card.Sink.{Sink}
-use Rattle.card_model.specs.declared.card.State.{State}
-use Rattle.card_model.specs.declared.card.State.the-variants.{Idle, Ready, Ident, Stby, Tran, Data, Rcv, Prg, Dis, Ina}
+use Rattle.card_model.specs.declared.state.Sink.the-variants.{Single, Multiple}
+use Rattle.card_model.specs.declared.state.Open.{Open}
+use Rattle.card_model.specs.declared.state.Open.the-variants.{Nothing, Read, Write, Busy}
 use Rattle.card_model.specs.declared.card.Core.{Core}
-use Rattle.card_model.specs.declared.card.Card.{Card}
-use Rattle.card_model.specs.Settings.{capacity}
-use Rattle.card_model.specs.Soundness.{unsound, offBlock}
-use Rattle.card_model.specs.Data.{blockInto}
-use Rattle.card_model.specs.Step.{unless, refuse, show, blockIn, step, given, sinkOf}
+use Rattle.card_model.specs.Settings.{BLOCK}
+use Rattle.card_model.specs.State.{openOf}
+use Rattle.card_model.specs.Soundness.{offWrite}
+use Rattle.card_model.specs.Data.{writeInto, blockInto}
+use Rattle.card_model.specs.Step.{BLOCK-ROWS, applies, refusal, blockSize}
+use Rattle.card_refuse.specs.Rows.{rowsOf}
 use Rattle.card_model.proofs.Facts.{facts-sound}
-use Rattle.card_open.proofs.Calls.{sized, world}
-use Rattle.card_block_in.specs.Stores.{Stores}
+use Rattle.card_refuse.proofs.Passed.{passed, sized}
+use Rattle.card_block_in.specs.Stores.{Stores, parts}
 
-on-block : (t : State) (s : Sink) → sinkOf t ≡ some s → offBlock t ≡ false → s .address % 512 ≡ 0
-unfolding sinkOf offBlock
-on-block (Rcv k) s e h = let same : s ≡ k = cc in ap (λ (x : Sink). x .address % 512) same ∙ eqb-true _ _ (not-false _ h)
-on-block (Data k) s e h = cc
-on-block Idle s e h = cc
-on-block Ready s e h = cc
-on-block Ident s e h = cc
-on-block Stby s e h = cc
-on-block Tran s e h = cc
-on-block Prg s e h = cc
-on-block Dis s e h = cc
-on-block Ina s e h = cc
+aligned : (o : Open) → offWrite o ≡ false → parts o .address % BLOCK ≡ 0
+aligned Nothing e = refl
+aligned (Read s) e = refl
+aligned (Write (Single address held)) e = eqb-true (address % BLOCK) 0 (not-false _ e)
+aligned (Write (Multiple address held)) e = eqb-true (address % BLOCK) 0 (not-false _ e)
+aligned (Busy s) e = refl
 
-pub stores : (c : Core) (s : Sink) (memory block : List ℕ) → unsound c ≡ false → length memory ≡ c .settings .blocks * 512
-    → sinkOf (c .bus .state) ≡ some s → length block ≡ 514 → Stores c s memory block
-stores c s memory block sound full e l =
-    let transfer = facts-sound c sound .0 .transfer in
-    let size = sized c memory sound full in
-    record { size = size; aligned = on-block (c .bus .state) s e (transfer .aligned); count = omega (arith, transfer .count, size .blocks); packet = l }
+pub stores : (c : Core) (o : Open) (memory block : List ℕ) (closed : Bool)
+    → refusal BLOCK-ROWS (rowsOf c (length memory) (not (eqb (length block) (blockSize c))) false closed) ≡ none
+    → o ≡ openOf (c .bus .state) → Stores c (parts o .address) memory × (length block ≡ blockSize c)
+unfolding applies
+stores c o memory block closed e k =
+    let row = passed BLOCK-ROWS (rowsOf c (length memory) (not (eqb (length block) (blockSize c))) false closed) e in
+    let transfer = facts-sound c (row 1) .0 .transfer in
+    let size = sized c (length memory) (row 1) (row 2) in (
+      record { size = size; aligned = aligned o (ap offWrite k ∙ transfer .aligned); count = omega (arith, transfer .count, size .blocks) },
+      eqb-true (length block) (blockSize c) (not-false _ (row 0)),
+    )
 
--- ---- the size of the block is looked at first
-
-module _ (card : Card) (memory block : List ℕ) where
-  pub give-1 : (length block ≡ 514 → ⊥) → step (world card memory) (blockIn block) ≡ refuse (world card memory) [] 1
-  unfolding step given unless
-  give-1 n = rw (ne-eqb (length block) 514 n)
-
-  module _ (long : length block ≡ 514) where
-    pub give-2 : unsound (card .core) ≡ true → step (world card memory) (blockIn block) ≡ refuse (world card memory) [] 2
-    unfolding step given unless
-    give-2 u = rw (eq-eqb (length block) 514 long, u)
-
-    module _ (sound : unsound (card .core) ≡ false) where
-      pub give-3 : (length memory ≡ capacity (card .core .settings) → ⊥) → step (world card memory) (blockIn block) ≡ refuse (world card memory) [] 3
-      unfolding step given unless
-      give-3 n = rw (eq-eqb (length block) 514 long, sound, ne-eqb (length memory) (capacity (card .core .settings)) n)
-
-      module _ (full : length memory ≡ capacity (card .core .settings)) where
-        pub give-5 : sinkOf (card .core .bus .state) ≡ none → step (world card memory) (blockIn block) ≡ refuse (world card memory) [] 5
-        unfolding step given unless
-        give-5 e = rw (eq-eqb (length block) 514 long, sound, eq-eqb (length memory) (capacity (card .core .settings)) full, e)
-
-        pub give-on : (k : Sink) → sinkOf (card .core .bus .state) ≡ some k → step (world card memory) (blockIn block) ≡ show (world card memory) [] (blockInto k (card .core) block)
-        unfolding step given unless
-        give-on k e = rw (eq-eqb (length block) 514 long, sound, eq-eqb (length memory) (capacity (card .core .settings)) full, e)
+-- by its parts, or by what is open
+pub into : (o : Open) (c : Core) (block : List ℕ) → writeInto (parts o .multiple) (parts o .address) (parts o .held) c block ≡ blockInto o c block
+unfolding blockInto writeInto
+into Nothing c block = refl
+into (Read s) c block = refl
+into (Write (Single address held)) c block = refl
+into (Write (Multiple address held)) c block = refl
+into (Busy s) c block = refl

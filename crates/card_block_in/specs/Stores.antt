@@ -1,14 +1,45 @@
--- What a block in asks of the record and the slices: rows 1 to 3 have been passed.
+-- The open write transfer by its parts, what a block in asks of it, and where its payload goes.
 use mathlib.Core.Path.{_≡_}
+use mathlib.Core.Bool.{Bool, true, false, cond}
 use mathlib.Core.List.{List}
 use Prim.Native.Nat.{ℕ, _%_, _≤_}
 use lib.ListN.{length}
+use Rattle.card_model.specs.declared.state.Sink.the-variants.{Single, Multiple}
+use Rattle.card_model.specs.declared.state.Open.{Open}
+use Rattle.card_model.specs.declared.state.Open.the-variants.{Nothing, Read, Write, Busy}
 use Rattle.card_model.specs.declared.card.Core.{Core}
-use Rattle.card_model.specs.declared.card.Sink.{Sink}
-use Rattle.card_open.specs.Turned.{Sized}
+use Rattle.card_model.specs.declared.done.Effect.the-variants.{Store}
+use Rattle.card_model.specs.declared.done.Flag.the-variants.{Keep}
+use Rattle.card_model.specs.Settings.{BLOCK, MOST, capacity}
+use Rattle.card_model.specs.Status.{OUT-OF-RANGE, WP-VIOLATION}
+use Rattle.card_model.specs.Protect.{whole, guarded}
+use Rattle.card_model.specs.Checks.{outside}
+use Rattle.card_model.specs.Execute.{raise}
+use Rattle.card_model.specs.Frame.{Turn, token, quiet}
+use Rattle.card_model.specs.Data.{holdWrite, accepted, ACCEPTED}
+use Rattle.card_refuse.specs.Rows.{Sized}
+use Rattle.card_block_in.specs.declared.turn.Transfer.{Transfer}
 
-pub record Stores (c : Core) (s : Sink) (memory block : List ℕ) : Type 0 where
-  pub size : Sized c memory
-  pub aligned : s .address % 512 ≡ 0
-  pub count : c .written ≤ 65536
-  pub packet : length block ≡ 514
+-- the open write transfer; another state counts as a held one
+abbrev pub closed : Transfer
+closed = record { multiple = false; address = 0; held = true }
+
+abbrev pub parts : Open → Transfer
+parts Nothing = closed
+parts (Read s) = closed
+parts (Write (Single address held)) = record { multiple = false; address = address; held = held }
+parts (Write (Multiple address held)) = record { multiple = true; address = address; held = held }
+parts (Busy s) = closed
+
+-- rows 1 to 3 have been passed
+pub record Stores (c : Core) (address : ℕ) (memory : List ℕ) : Type 0 where
+  pub size : Sized c (length memory)
+  pub aligned : address % BLOCK ≡ 0
+  pub count : c .written ≤ MOST
+
+-- the payload of a right packet, at its place
+abbrev pub placed : Bool → ℕ → Core → List ℕ → Turn
+placed multiple address c payload =
+    cond (outside (capacity (c .settings)) address) (quiet (holdWrite (raise c OUT-OF-RANGE) multiple address) Keep)
+    (cond (guarded (whole (c .settings)) (c .marks) address) (quiet (holdWrite (raise c WP-VIOLATION) multiple address) Keep)
+    (record { core = accepted c multiple address; flag = Keep; message = token ACCEPTED; effect = Store address; payload = payload }))

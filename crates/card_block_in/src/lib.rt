@@ -9,28 +9,28 @@ mod turn;
 use card_call::Stepped;
 use card_call::refused;
 use card_model::card::Card;
-use card_open::Opening;
+use card_refuse::refusal;
+use card_refuse::rows;
+use card_settings::BLOCK;
+use wire_packet::CHECK;
 
 pub fn block_in(card: Card, block: &[u8], memory: &mut [u8]) -> Stepped
     ensures { λ r. ⌜ returned r (now (memory .exit)) [] ≡ stepped card (now (memory .entry)) (blockIn (now (block .entry))) ⌝ }
 {
-    if block.len() != 514 {
-        return refused(card, 1);
-    }
-    let c = card.core;
-    if card_sound::unsound(c) {
-        return refused(card, 2);
-    }
-    if memory.len() as u64 != c.settings.blocks as u64 * 512 {
-        return refused(card, 3);
-    }
-    let bus = c.bus;
+    let bus = card.core.bus;
     let state = bus.state;
-    let open = card_open::open(state);
-    match open {
-        Opening::Write(s) => turn::block_into(s, card, block, memory),
-        Opening::Read(_) => refused(card, 5),
-        Opening::Busy(_) => refused(card, 5),
-        Opening::Nothing => refused(card, 5),
+    let open = card_state::open(state);
+    let size = BLOCK as usize + CHECK;
+    let r = rows(
+        card.core,
+        memory.len(),
+        block.len() != size,
+        false,
+        !card_state::writing(open),
+    );
+    let n = refusal(&[1, 2, 3, 5], r);
+    if n != 0 {
+        return refused(card, n);
     }
+    turn::write_into(card, block, memory, turn::open_write(open))
 }

@@ -1,100 +1,150 @@
 // A data block into an open write transfer: its check, the place, and the store.
 ghost use mathlib.Core.Path.{_≡_};
 ghost use mathlib.Core.List.{[]};
-ghost use mathlib.Core.Bool.{cond};
-ghost use Prim.Native.Nat.{_+_, _≤_};
+ghost use mathlib.Core.Bool.{true, false, cond};
+ghost use Prim.Native.Nat.{_+_, _*_, _<_};
 ghost use lib.ListN.{length};
-ghost use Rattle.wire_packet.specs.Packet.{packetRight};
-ghost use Rattle.card_model.specs.declared.card.State.the-variants.{Tran};
-ghost use Rattle.card_model.specs.Record.{withState};
-ghost use Rattle.card_model.specs.Data.{blockInto, holdWrite, stored};
-ghost use Rattle.card_call.specs.Seen.{returned};
-ghost use Rattle.card_open.specs.Turned.{turned};
-ghost use Rattle.card_block_in.specs.Stores.{Stores};
+ghost use Rattle.card_model.specs.declared.state.State.the-variants.{Tran, Rcv, Prg};
+ghost use Rattle.card_model.specs.Settings.{BLOCK, MOST};
+ghost use Rattle.card_model.specs.State.{sink};
+ghost use Rattle.card_model.specs.Data.{writeInto};
+ghost use Rattle.card_model.specs.Step.{blockSize};
+ghost use Rattle.card_call.specs.Seen.{returned, turned};
+ghost use Rattle.card_model.specs.Checks.{outside};
+ghost use Rattle.card_model.specs.Status.{OUT-OF-RANGE, WP-VIOLATION};
+ghost use Rattle.card_block_in.specs.Stores.{Stores, parts, placed};
 use card_call::Stepped;
 use card_call::answered;
+use card_effect::apply;
 use card_model::answer::Answer;
 use card_model::card::Card;
-use card_model::card::Core;
-use card_model::card::Sink;
-use card_model::card::State;
+use card_model::done::Effect;
+use card_model::state::Open;
+use card_model::state::Sink;
+use card_model::state::State;
+use card_protect::guarded;
+use card_protect::whole;
 use card_record::raise;
 use card_record::with_state;
 use card_record::with_written;
-use card_status::out_of_range;
-use card_status::wp_violation;
+use card_settings::BLOCK;
+use card_settings::capacity;
+use card_state::sink;
+use card_status::OUT_OF_RANGE;
+use card_status::WP_VIOLATION;
 
-// The check behind the payload is the payload's.
-fn right(block: &[u8]) -> bool
-    requires { ⌜ length (now block) ≡ 514 ⌝ }
-    ensures { λ r. ⌜ r ≡ packetRight (now (block .entry)) ⌝ }
+// An open write transfer.
+pub(crate) struct Transfer {
+    multiple: bool,
+    address: u32,
+    held: bool,
+}
+
+// Where no write is open row 5 has refused the call: as a held one.
+pub(crate) fn open_write(o: Open) -> Transfer
+    ensures { λ r. ⌜ r ≡ parts o ⌝ }
 {
-    let mut number: u8 = 0;
-    wire_packet::decode(block, &mut number);
-    number == 0
+    let closed = Transfer {
+        multiple: false,
+        address: 0,
+        held: true,
+    };
+    match o {
+        Open::Nothing => closed,
+        Open::Read(_) => closed,
+        Open::Write(s) => match s {
+            Sink::Single { address, held } => Transfer {
+                multiple: false,
+                address,
+                held,
+            },
+            Sink::Multiple { address, held } => Transfer {
+                multiple: true,
+                address,
+                held,
+            },
+        },
+        Open::Busy(_) => closed,
+    }
+}
+
+// The bit that holds a transfer at a place, or 0.
+fn hold_bit(top: u64, wp: bool, address: u32) -> u8
+    ensures { λ r. ⌜ r ≡ cond (outside top address) OUT-OF-RANGE (cond wp WP-VIOLATION 0) ⌝ }
+{
+    if top <= address as u64 {
+        return OUT_OF_RANGE;
+    }
+    if wp {
+        return WP_VIOLATION;
+    }
+    0
 }
 
 // A held transfer is silent until it is ended.
-fn hold(core: Core, sink: Sink) -> Core
-    ensures { λ r. ⌜ r ≡ holdWrite core sink ⌝ }
+fn hold(multiple: bool, address: u32) -> State
+    ensures { λ r. ⌜ r ≡ Rcv (sink multiple address true) ⌝ }
 {
-    let held = Sink {
-        multiple: sink.multiple,
-        address: sink.address,
-        held: true,
-    };
-    with_state(core, State::Rcv(held))
+    State::Rcv(sink(multiple, address, true))
 }
 
 // After a wrong check 25 is held, and 24 returns to tran.
-fn rejected(core: Core, sink: Sink) -> Core
-    ensures { λ r. ⌜ r ≡ cond (sink .multiple) (holdWrite core sink) (withState core Tran) ⌝ }
+fn rejected(multiple: bool, address: u32) -> State
+    ensures { λ r. ⌜ r ≡ cond multiple (Rcv (sink multiple address true)) Tran ⌝ }
 {
-    if sink.multiple {
-        return hold(core, sink);
+    if multiple {
+        return hold(true, address);
     }
-    with_state(core, State::Tran)
+    State::Tran
 }
 
-// 24 goes to prg, 25 on to the next block.
-fn stored(core: Core, sink: Sink) -> Core
-    requires { ⌜ (core .written ≤ 65536) × (sink .address ≤ 33554432) ⌝ }
-    ensures { λ r. ⌜ r ≡ stored core sink ⌝ }
+// After a store 24 goes to prg, 25 on to the next block.
+fn accepted(multiple: bool, address: u32) -> State
+    requires { ⌜ address < MOST * BLOCK ⌝ }
+    ensures { λ r. ⌜ r ≡ cond multiple (Rcv (sink true (address + BLOCK) false)) Prg ⌝ }
 {
-    let next = with_written(core, core.written + 1);
-    if sink.multiple {
-        let on = Sink {
-            multiple: true,
-            address: sink.address + 512,
-            held: false,
-        };
-        return with_state(next, State::Rcv(on));
+    if multiple {
+        return State::Rcv(sink(true, address + BLOCK, false));
     }
-    with_state(next, State::Prg)
+    State::Prg
 }
 
-pub(crate) fn block_into(sink: Sink, card: Card, block: &[u8], memory: &mut [u8]) -> Stepped
-    requires { ⌜ Stores (card .core) sink (now memory) (now block) ⌝ }
+// The payload of a right packet, at its place.
+fn place(card: Card, payload: &[u8], memory: &mut [u8], t: Transfer) -> Stepped
+    requires { ⌜ Stores (card .core) (t .address) (now memory) × (length (now payload) ≡ BLOCK) ⌝ }
     ensures { λ r.
         ⌜ returned r (now (memory .exit)) []
-        ≡ turned card (now (memory .entry)) [] (blockInto sink (card .core) (now (block .entry))) ⌝ }
+        ≡ turned card (now (memory .entry)) [] (placed (t .multiple) (t .address) (card .core) (now (payload .entry))) ⌝ }
 {
-    let c = card.core;
-    if sink.held {
-        return answered(card, c, Answer::Silence);
+    let all = whole(card.core.settings.permanent, card.core.settings.temporary);
+    let mut marks = card.core.marks;
+    let wp = guarded(all, &marks, t.address);
+    let bit = hold_bit(capacity(card.core.settings.blocks), wp, t.address);
+    if bit != 0 {
+        let next = with_state(raise(card.core, bit), hold(t.multiple, t.address));
+        return answered(card, next, Answer::Silence);
     }
-    if !right(block) {
-        return answered(card, rejected(c, sink), Answer::Rejected);
+    let store = Effect::Store { address: t.address };
+    apply(all, store, payload, memory, &mut marks);
+    let counted = with_written(card.core, card.core.written + 1);
+    let next = with_state(counted, accepted(t.multiple, t.address));
+    answered(card, next, Answer::Accepted)
+}
+
+pub(crate) fn write_into(card: Card, block: &[u8], memory: &mut [u8], t: Transfer) -> Stepped
+    requires { ⌜ Stores (card .core) (t .address) (now memory) × (length (now block) ≡ blockSize (card .core)) ⌝ }
+    ensures { λ r.
+        ⌜ returned r (now (memory .exit)) []
+        ≡ turned card (now (memory .entry)) [] (writeInto (t .multiple) (t .address) (t .held) (card .core) (now (block .entry))) ⌝ }
+{
+    if t.held {
+        return answered(card, card.core, Answer::Silence);
     }
-    let address = sink.address;
-    if c.settings.blocks * 512 <= address {
-        return answered(card, hold(raise(c, out_of_range()), sink), Answer::Silence);
+    let mut number: u8 = 0;
+    let payload = wire_packet::decode(block, &mut number);
+    if number != 0 {
+        let next = with_state(card.core, rejected(t.multiple, t.address));
+        return answered(card, next, Answer::Rejected);
     }
-    if card_protect::guarded(c, address) {
-        return answered(card, hold(raise(c, wp_violation()), sink), Answer::Silence);
-    }
-    let start = address as usize;
-    let end = start + 512;
-    codec::copy(&mut memory[start..end], &block[0..512]);
-    answered(card, stored(c, sink), Answer::Accepted)
+    place(card, payload, memory, t)
 }

@@ -3,7 +3,8 @@ use mathlib.Core.List.{List}
 use Prim.Native.Nat.{ℕ}
 use Rattle.codec.specs.Answer.{Outcome}
 use Rattle.card_model.specs.declared.card.Card.{Card}
-use Rattle.card_model.specs.Step.{Call, Reply, Result, answer, step}
+use Rattle.card_model.specs.Frame.{Turn}
+use Rattle.card_model.specs.Step.{Call, Reply, Result, answer, world, show, step}
 use Rattle.card_call.specs.declared.Stepped.{Stepped}
 
 pub record Seen : Type 0 where
@@ -22,4 +23,8 @@ seen r = record { answer = r .answer; card = r .world .card; memory = r .world .
 
 -- what the step of the histories gives for that very call
 abbrev pub stepped : Card → List ℕ → Call → Seen
-stepped card memory c = seen (step (record { card = card; memory = memory }) c)
+stepped card memory c = seen (step (world card memory) c)
+
+-- a turn of a call that was not refused
+abbrev pub turned : Card → List ℕ → List ℕ → Turn → Seen
+turned card memory out t = seen (show (world card memory) out t)

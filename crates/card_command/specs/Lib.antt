@@ -1,2 +1,2 @@
--- What the call asks of what a frame comes to.
-pub mod Within
+-- What showing a frame asks for.
+pub mod Shows

@@ -1,72 +1,47 @@
-// The call of a command frame: the frame rules in order, and the response on the line.
+// The call of a command frame: its refusals, the frame rules, the effect on memory and marks, and the response on the line.
 ghost use mathlib.Core.Path.{_≡_};
-ghost use Prim.Native.Nat.{_≤_};
-ghost use lib.ListN.{length};
-ghost use Rattle.card_model.specs.Settings.{capacity};
-ghost use Rattle.card_model.specs.Step.{commandFrame, affected, flagged, show};
-ghost use Rattle.card_call.specs.Seen.{returned, stepped, seen};
-ghost use Rattle.card_transfer.specs.Ran.{effect};
-ghost use Rattle.card_finish.specs.Turned.{flag, turned};
-ghost use Rattle.card_command.specs.Within.{Within};
+ghost use Rattle.card_model.specs.Step.{world, show, commandFrame};
+ghost use Rattle.card_call.specs.Seen.{returned, seen, stepped};
+ghost use Rattle.card_finish.specs.Turned.{turned};
+ghost use Rattle.card_command.specs.Shows.{Shows};
 use card_call::Stepped;
 use card_call::refused;
-use card_finish::Flag;
+use card_effect::apply;
 use card_finish::Turned;
+use card_finish::kept;
 use card_model::card::Card;
-use card_model::card::Core;
-use card_model::card::Line;
+use card_protect::whole;
 use card_receive::receive;
+use card_refuse::refusal;
+use card_refuse::rows;
 use card_respond::respond;
-use card_transfer::ran::Sweep;
 
-fn flagged(f: Flag, crc: bool) -> bool
-    ensures { λ r. ⌜ r ≡ flagged (flag f) crc ⌝ }
-{
-    match f {
-        Flag::Keep => crc,
-        Flag::Set => true,
-        Flag::Clear => false,
-    }
-}
+// a frame, and the room for any response
+const FRAME: usize = 6;
 
-// What the call does to memory.
-fn affect(c: Core, sweep: Sweep, memory: &mut [u8])
-    requires { ⌜ (length (now memory) ≡ capacity (c .settings)) × Within (c .settings .blocks) sweep ⌝ }
-    ensures { λ _. ⌜ now (memory .exit) ≡ affected c (effect sweep) (now (memory .entry)) ⌝ }
-{
-    match sweep {
-        Sweep::Nothing => {}
-        Sweep::Blocks { first, last } => {
-            card_protect::sweep(c, memory, first, last + 1 - first);
-        }
-    }
-}
+const ROOM: usize = 17;
 
 // A call that was not refused.
 fn show(card: Card, turn: Turned, memory: &mut [u8], out: &mut [u8]) -> Stepped
-    requires { ⌜ (17 ≤ length (now out)) × (length (now memory) ≡ capacity (card .core .settings)) × Within (card .core .settings .blocks) (turn .sweep) ⌝ }
+    requires { ⌜ Shows (card .core .settings) (turn .effect) (now memory) (now out) ⌝ }
     ensures { λ r.
         ⌜ returned r (now (memory .exit)) (now (out .exit))
-        ≡ seen (show (record { card = card; memory = now (memory .entry) }) (now (out .entry)) (turned (card .core) turn)) ⌝ }
+        ≡ seen (show (world card (now (memory .entry))) (now (out .entry)) (turned turn)) ⌝ }
 {
     let core = card.core;
-    let crc = card.line.com_crc_error;
-    let sweep = turn.sweep;
-    affect(core, sweep, memory);
-    let message = turn.message;
-    let answer = respond(message, core, crc, out);
+    let settings = core.settings;
+    let line = card.line;
+    let all = whole(settings.permanent, settings.temporary);
+    let mut marks = core.marks;
+    let effect = turn.effect;
+    apply(all, effect, &[], memory, &mut marks);
     let next = turn.core;
-    let f = turn.flag;
-    let line = Line {
-        com_crc_error: flagged(f, crc),
-    };
-    let card = Card {
-        core: next,
-        line: line,
-    };
+    let message = turn.message;
+    let answer = respond(message, next, line.com_crc_error, out);
+    let flag = turn.flag;
     Stepped {
         answer: answer,
-        card: card,
+        card: kept(next, marks, flag, line),
     }
 }
 
@@ -76,19 +51,16 @@ pub fn command_frame(card: Card, frame: &[u8], memory: &mut [u8], out: &mut [u8]
         ≡ stepped card (now (memory .entry)) (commandFrame (now (frame .entry)) (now (out .entry))) ⌝ }
 {
     let core = card.core;
-    if frame.len() != 6 {
-        return refused(card, 1);
-    }
-    let unsound = card_sound::unsound(core);
-    let other_size = memory.len() as u64 != (core.settings.blocks as u64) * 512;
-    if unsound {
-        return refused(card, 2);
-    }
-    if other_size {
-        return refused(card, 3);
-    }
-    if out.len() < 17 {
-        return refused(card, 4);
+    let r = rows(
+        core,
+        memory.len(),
+        frame.len() != FRAME,
+        out.len() < ROOM,
+        false,
+    );
+    let n = refusal(&[1, 2, 3, 4], r);
+    if n != 0 {
+        return refused(card, n);
     }
     show(card, receive(core, frame), memory, out)
 }

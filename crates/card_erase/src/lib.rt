@@ -1,125 +1,121 @@
 // Erase: 32 and 33 give the first and the second address, 38 erases from the block of one through that of the other.
 ghost use mathlib.Core.Path.{_≡_};
 ghost use Prim.Native.Nat.{_≤_};
-ghost use Rattle.card_model.specs.Record.{isSet, address};
-ghost use Rattle.card_model.specs.Execute.{eraseStart, eraseEnd, erase, sweepBits};
-ghost use Rattle.card_transfer.specs.Ran.{ran};
-ghost use Rattle.card_erase.specs.Erased.{erased};
+ghost use Rattle.card_model.specs.Execute.{settled, eraseStart, eraseEnd, skipped, erased, erase};
 use card_model::card::Core;
-use card_model::card::Erase;
-use card_model::card::Kept;
-use card_model::card::Mark;
+use card_model::card::EraseMark;
+use card_model::card::EraseMarks;
 use card_model::command::Command;
+use card_model::done::Done;
+use card_model::done::Effect;
+use card_model::done::Response;
+use card_protect::any_guarded;
+use card_protect::whole;
 use card_record::drop_erase;
+use card_record::erase::address;
+use card_record::erase::is_set;
+use card_record::erase::pending;
+use card_record::raise;
 use card_record::with_erase;
-use card_status::erase_param;
-use card_status::erase_seq_error;
-use card_status::no_bits;
-use card_status::wp_erase_skip;
-use card_transfer::checks::address_check;
-use card_transfer::checks::unless;
-use card_transfer::moves::moved;
-use card_transfer::ran::Ran;
-use card_transfer::ran::Reply;
-use card_transfer::ran::Sweep;
-use card_transfer::ran::answered;
+use card_settings::BLOCK;
+use card_settings::capacity;
+use card_start::checks::address_check;
+use card_start::checks::checked;
+use card_start::done::ran;
+use card_start::moves::moved;
+use card_status::ERASE_PARAM;
+use card_status::ERASE_RESET;
+use card_status::ERASE_SEQ_ERROR;
+use card_status::WP_ERASE_SKIP;
+use card_table::keeps_erase;
 
-fn is_set(mark: Mark) -> bool
-    ensures { λ r. ⌜ r ≡ isSet mark ⌝ }
+// Any other command that runs, but 0, clears pending erase marks.
+pub fn settled(command: Command, c: Core) -> Core
+    ensures { λ r. ⌜ r ≡ settled command c ⌝ }
 {
-    match mark {
-        Mark::Unset => false,
-        Mark::At(_) => true,
+    if keeps_erase(command) {
+        return c;
     }
+    let marks = c.erase;
+    if pending(marks) {
+        return drop_erase(raise(c, ERASE_RESET));
+    }
+    c
 }
 
-fn address(mark: Mark) -> u32
-    ensures { λ r. ⌜ r ≡ address mark ⌝ }
+pub fn erase_start(c: Core, first: u32) -> Done
+    ensures { λ r. ⌜ r ≡ eraseStart c first ⌝ }
 {
-    match mark {
-        Mark::Unset => 0,
-        Mark::At(a) => a,
-    }
-}
-
-pub fn erase_start(c: Core, first: u32) -> Ran
-    ensures { λ r. ⌜ ran c r ≡ eraseStart c first ⌝ }
-{
-    let marks = Erase {
-        first: Mark::At(first),
-        second: Mark::Unset,
+    let bit = address_check(capacity(c.settings.blocks), first);
+    let marks = EraseMarks {
+        first: EraseMark::At(first),
+        second: EraseMark::Unset,
     };
-    unless(
-        c,
-        address_check(c, first),
-        answered(with_erase(c, marks), Reply::R1),
-    )
+    checked(c, bit, ran(with_erase(c, marks), Response::R1))
 }
 
-pub fn erase_end(c: Core, second: u32) -> Ran
-    ensures { λ r. ⌜ ran c r ≡ eraseEnd c second ⌝ }
+pub fn erase_end(c: Core, second: u32) -> Done
+    ensures { λ r. ⌜ r ≡ eraseEnd c second ⌝ }
 {
     let held = c.erase;
     let first = held.first;
     if !is_set(first) {
-        return answered(drop_erase(c, erase_seq_error()), Reply::R1);
+        return ran(drop_erase(raise(c, ERASE_SEQ_ERROR)), Response::R1);
     }
-    let marks = Erase {
+    let bit = address_check(capacity(c.settings.blocks), second);
+    let marks = EraseMarks {
         first: first,
-        second: Mark::At(second),
+        second: EraseMark::At(second),
     };
-    unless(
-        c,
-        address_check(c, second),
-        answered(with_erase(c, marks), Reply::R1),
-    )
+    checked(c, bit, ran(with_erase(c, marks), Response::R1))
 }
 
-// WP_ERASE_SKIP where some block is protected.
-fn sweep_bits(c: Core, first: u32, last: u32) -> Kept
-    requires { ⌜ (first ≤ last) × (last ≤ 0x800000) ⌝ }
-    ensures { λ r. ⌜ r ≡ sweepBits c first last ⌝ }
+// A bit for protected blocks that are skipped.
+fn skipped(c: Core, first: u32, count: u32) -> Core
+    ensures { λ r. ⌜ r ≡ skipped c first count ⌝ }
 {
-    if card_protect::any_guarded(c, first, last + 1 - first) {
-        return wp_erase_skip();
+    let all = whole(c.settings.permanent, c.settings.temporary);
+    let marks = c.marks;
+    if any_guarded(all, &marks, first, count) {
+        return raise(c, WP_ERASE_SKIP);
     }
-    no_bits()
+    c
 }
 
 // Both addresses are in order.
-fn erased(c: Core, from: u32, to: u32) -> Ran
+fn erased(c: Core, from: u32, to: u32) -> Done
     requires { ⌜ from ≤ to ⌝ }
-    ensures { λ r. ⌜ ran c r ≡ erased c from to ⌝ }
+    ensures { λ r. ⌜ r ≡ erased c from to ⌝ }
 {
-    let first = from / 512;
-    let last = to / 512;
-    let bits = sweep_bits(c, first, last);
-    Ran {
-        core: moved(Command::Erase, drop_erase(c, bits)),
-        reply: Reply::R1,
-        sweep: Sweep::Blocks {
+    let first = from / BLOCK;
+    let count = to / BLOCK + 1 - first;
+    let next = drop_erase(skipped(c, first, count));
+    Done {
+        core: moved(Command::Erase, next),
+        response: Response::R1,
+        effect: Effect::Sweep {
             first: first,
-            last: last,
+            count: count,
         },
     }
 }
 
-pub fn erase(c: Core) -> Ran
-    ensures { λ r. ⌜ ran c r ≡ erase c ⌝ }
+pub fn erase(c: Core) -> Done
+    ensures { λ r. ⌜ r ≡ erase c ⌝ }
 {
     let marks = c.erase;
     let first = marks.first;
     let second = marks.second;
     if !is_set(first) {
-        return answered(drop_erase(c, erase_seq_error()), Reply::R1);
+        return ran(drop_erase(raise(c, ERASE_SEQ_ERROR)), Response::R1);
     }
     if !is_set(second) {
-        return answered(drop_erase(c, erase_seq_error()), Reply::R1);
+        return ran(drop_erase(raise(c, ERASE_SEQ_ERROR)), Response::R1);
     }
     let from = address(first);
     let to = address(second);
     if to < from {
-        return answered(drop_erase(c, erase_param()), Reply::R1);
+        return ran(drop_erase(raise(c, ERASE_PARAM)), Response::R1);
     }
     erased(c, from, to)
 }

@@ -1,37 +1,65 @@
--- What a command that ran leaves, by its response.
-use mathlib.Core.Path.{_≡_, sym, ap, ap₂, _∙_}
+-- What a command that ran leaves, and what each verdict shows.
+use mathlib.Core.Path.{_≡_, refl, ap, _∙_}
+use mathlib.Core.Bool.{Bool, false}
+use mathlib.Core.List.{[]}
 use Prim.Native.Nat.{ℕ}
-use lib.Dec.{eqb}
 use Rattle.card_model.specs.declared.card.Core.{Core}
+use Rattle.card_model.specs.declared.command.Command.{Command}
+use Rattle.card_model.specs.declared.done.Response.{Response}
+use Rattle.card_model.specs.declared.done.Response.the-variants.{Nothing, R1, R6, Cid, Csd, R3, R7}
+use Rattle.card_model.specs.declared.done.Done.{Done}
+use Rattle.card_model.specs.declared.done.Flag.the-variants.{Keep, Clear}
+use Rattle.card_model.specs.declared.done.Judged.{Judged}
+use Rattle.card_model.specs.declared.done.Verdict.the-variants.{NotAllowed, OtherCard, Ran}
 use Rattle.card_model.specs.Record.{withApp}
-use Rattle.card_model.specs.Frame as Frame
-use Rattle.card_model.specs.Frame.{Turn, clear, cleared, messageOf, finish}
-use Rattle.card_table.specs.declared.Chosen.{Chosen}
-use Rattle.card_table.specs.Chosen.{chosen}
-use Rattle.card_transfer.specs.declared.ran.Reply.{Reply}
-use Rattle.card_transfer.specs.declared.ran.Ran.{Ran}
-use Rattle.card_transfer.specs.Ran.{response, effect, ran}
-use Rattle.card_respond.specs.declared.Message.{Message}
-use Rattle.card_respond.specs.Sent.{message}
-use Rattle.card_finish.specs.declared.Flag.{Flag}
-use Rattle.card_finish.specs.declared.Turned.{Turned}
+use Rattle.card_model.specs.State.{number}
+use Rattle.card_model.specs.Status.{ILLEGAL-COMMAND}
+use Rattle.card_model.specs.Table.{row, setsApp}
+use Rattle.card_model.specs.Execute.{raise}
+use Rattle.card_model.specs.Frame.{Message, Turn, quiet, wordOf, messageOf, cleared, finish, showSd}
+use Rattle.card_respond.specs.Sent.{messageBy}
 use Rattle.card_finish.specs.Turned.{turned}
 
-module _ (row : Chosen) (index : ℕ) (before on : Core) (d : Ran) (t : Turned) where
-  pub finished : (reply : Reply) (left : Core) (m : Message) → d .reply ≡ reply
-      → t ≡ record { core = withApp left (eqb index 55); flag = Flag.Clear; message = m; sweep = d .sweep }
-      → left ≡ cleared (response on reply) (d .core)
-      → message on m ≡ messageOf (chosen index row) before (ran on d) (response on reply)
-      → turned on t ≡ finish (chosen index row) before (ran on d)
-  finished reply left m e h l k =
-      ap (turned on) h
-      ∙ ap₂ {C = Turn} (λ (x : Core) (y : Frame.Message). record { core = withApp x (eqb index 55); flag = clear; message = y; effect = effect (d .sweep) }) l k
-      ∙ sym
-      (ap {B = Turn}
-      (λ (x : Reply). record {
-        core = withApp (cleared (response on x) (d .core)) (eqb index 55);
-        flag = clear;
-        message = messageOf (chosen index row) before (ran on d) (response on x);
-        effect = effect (d .sweep);
+module _ (k : Command) (state : ℕ) (d : Done) where
+  -- what is cleared and marked leaves address and registers
+  message-kept : (b : Bool) (r : Response)
+      → messageBy (withApp (cleared r (d .core)) b) (row k .index) (wordOf k state d) r ≡ messageOf k state d r
+  unfolding cleared messageOf
+  message-kept b Nothing = refl
+  message-kept b R1 = refl
+  message-kept b R6 = refl
+  message-kept b Cid = refl
+  message-kept b Csd = refl
+  message-kept b (R3 ocr) = refl
+  message-kept b (R7 voltage pattern) = refl
+
+  pub finished : (next : Core) (i w : ℕ) → next ≡ withApp (cleared (d .response) (d .core)) (setsApp (row k .kind)) → i ≡ row k .index
+      → w ≡ wordOf k state d
+      → turned (record { core = next; flag = Clear; message = record { response = d .response; index = i; word = w }; effect = d .effect })
+      ≡ finish k state d
+  finished next i w p q s =
+      (λ j. turned (record { core = p j; flag = Clear; message = record { response = d .response; index = q j; word = s j }; effect = d .effect }))
+      ∙ ap {B = Turn}
+      (λ (m : Message). record {
+        core = withApp (cleared (d .response) (d .core)) (setsApp (row k .kind));
+        flag = Clear;
+        message = m;
+        effect = d .effect;
+        payload = [];
       })
-      e)
+      (message-kept (setsApp (row k .kind)) (d .response))
+
+-- ---- by the verdict
+
+module _ (c : Core) (j : Judged) where
+  pub not-allowed : j .verdict ≡ NotAllowed → showSd c j ≡ quiet (withApp (raise c ILLEGAL-COMMAND) false) Keep
+  unfolding showSd
+  not-allowed e = rw e
+
+  pub other-card : j .verdict ≡ OtherCard → showSd c j ≡ quiet (withApp c false) Keep
+  unfolding showSd
+  other-card e = rw e
+
+  pub ran : (n : ℕ) → n ≡ number (c .bus .state) → j .verdict ≡ Ran → finish (j .command) n (j .done) ≡ showSd c j
+  unfolding showSd
+  ran n h e = ap (λ (m : ℕ). finish (j .command) m (j .done)) h ∙ rw e

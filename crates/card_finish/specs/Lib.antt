@@ -1,2 +1,2 @@
--- What this crate's structs and enums stand for in the model.
+-- What a turn of the code stands for in the model.
 pub mod Turned

@@ -1,104 +1,134 @@
-// What a frame comes to: silence, or what a command that ran shows and clears.
+// SD mode: what a frame shows, and what a command that ran clears.
 ghost use mathlib.Core.Path.{_≡_};
-ghost use lib.Dec.{eqb};
-ghost use Rattle.card_model.specs.Record.{withApp, withKept};
-ghost use Rattle.card_model.specs.Status.{withoutIllegal};
-ghost use Rattle.card_model.specs.Frame.{finish};
-ghost use Rattle.card_transfer.specs.declared.ran.Sweep.the-variants.{Nothing};
-ghost use Rattle.card_transfer.specs.Ran.{ran};
-ghost use Rattle.card_table.specs.Chosen.{chosen};
-ghost use Rattle.card_finish.specs.declared.Flag.the-variants.{Clear};
+ghost use Rattle.card_model.specs.Record.{withMarks};
+ghost use Rattle.card_model.specs.Frame.{quiet, cleared, finish, showSd};
+ghost use Rattle.card_model.specs.Step.{flagged};
 ghost use Rattle.card_finish.specs.Turned.{turned};
+use card_model::card::Card;
 use card_model::card::Core;
+use card_model::card::Line;
+use card_model::command::Command;
+use card_model::done::Done;
+use card_model::done::Effect;
+use card_model::done::Flag;
+use card_model::done::Judged;
+use card_model::done::Response;
+use card_model::done::Verdict;
+use card_record::raise;
 use card_record::with_app;
 use card_record::with_kept;
+use card_record::with_marks;
 use card_respond::Message;
 use card_status::no_bits;
 use card_status::without_illegal;
 use card_status::word::status;
-use card_table::Chosen;
-use card_transfer::ran::Ran;
-use card_transfer::ran::Reply;
-use card_transfer::ran::Sweep;
-
-// What becomes of COM_CRC_ERROR.
-pub enum Flag {
-    Keep,
-    Set,
-    Clear,
-}
 
 pub struct Turned {
     pub core: Core,
     pub flag: Flag,
     pub message: Message,
-    pub sweep: Sweep,
+    pub effect: Effect,
 }
 
-// Silence, and nothing but the application mark and COM_CRC_ERROR changes.
-pub fn quiet(c: Core, app: bool, flag: Flag) -> Turned
-    ensures { λ r. ⌜ r ≡ record { core = withApp c app; flag = flag; message = Message.Silence; sweep = Nothing } ⌝ }
+// Silence; memory and marks stay.
+pub fn quiet(c: Core, flag: Flag) -> Turned
+    ensures { λ r. ⌜ turned r ≡ quiet c flag ⌝ }
 {
+    let message = Message {
+        response: Response::Nothing,
+        index: 0,
+        word: 0,
+    };
     Turned {
-        core: with_app(c, app),
+        core: c,
         flag: flag,
-        message: Message::Silence,
-        sweep: Sweep::Nothing,
-    }
-}
-
-// After a command that ran the application mark is set exactly if it was 55.
-fn ended(c: Core, index: u8, message: Message, sweep: Sweep) -> Turned
-    ensures { λ r. ⌜ r ≡ record { core = withApp c (eqb index 55); flag = Clear; message = message; sweep = sweep } ⌝ }
-{
-    Turned {
-        core: with_app(c, index == 55),
-        flag: Flag::Clear,
         message: message,
-        sweep: sweep,
+        effect: Effect::Nothing,
     }
 }
 
-// Bit 22 goes after every command that runs.
-fn clear_illegal(c: Core) -> Core
-    ensures { λ r. ⌜ r ≡ withKept c (withoutIllegal (c .kept)) ⌝ }
+// R1 carries every bit that is kept, and clears it; the others clear ILLEGAL_COMMAND alone.
+fn cleared(response: Response, c: Core) -> Core
+    ensures { λ r. ⌜ r ≡ cleared response c ⌝ }
 {
     let kept = c.kept;
-    with_kept(c, without_illegal(kept))
+    let rest = without_illegal(kept);
+    let none = no_bits();
+    match response {
+        Response::Nothing => with_kept(c, rest),
+        Response::R1 => with_kept(c, none),
+        Response::R6 => with_kept(c, rest),
+        Response::Cid => with_kept(c, rest),
+        Response::Csd => with_kept(c, rest),
+        Response::R3(_) => with_kept(c, rest),
+        Response::R7 {
+            voltage: _,
+            pattern: _,
+        } => with_kept(c, rest),
+    }
 }
 
-// R1 carries every bit that is kept, and clears it; the others carry none.
-pub fn finish(row: Chosen, index: u8, before: Core, on: Core, done: Ran) -> Turned
-    ensures { λ r. ⌜ turned on r ≡ finish (chosen index row) before (ran on done) ⌝ }
+// A command that ran; `state` is the number of the state at reception.
+pub fn finish(command: Command, state: u8, done: Done) -> Turned
+    ensures { λ r. ⌜ turned r ≡ finish command state done ⌝ }
 {
-    let bus = before.bus;
-    let state = bus.state;
     let core = done.core;
     let kept = core.kept;
-    let word = status(kept, state, row.app);
-    let left = clear_illegal(core);
-    let none = with_kept(core, no_bits());
-    let sweep = done.sweep;
-    let reply = done.reply;
-    match reply {
-        Reply::Nothing => ended(left, index, Message::Silence, sweep),
-        Reply::R1 => {
-            let r1 = Message::R1 { index, word };
-            ended(none, index, r1, sweep)
+    let response = done.response;
+    let effect = done.effect;
+    let message = Message {
+        response: response,
+        index: card_table::index(command),
+        word: status(kept, state, card_table::shows_app(command)),
+    };
+    Turned {
+        core: with_app(cleared(response, core), card_table::sets_app(command)),
+        flag: Flag::Clear,
+        message: message,
+        effect: effect,
+    }
+}
+
+pub fn show_sd(c: Core, judged: Judged) -> Turned
+    ensures { λ r. ⌜ turned r ≡ showSd c judged ⌝ }
+{
+    let verdict = judged.verdict;
+    match verdict {
+        Verdict::NotAllowed => quiet(
+            with_app(raise(c, card_status::ILLEGAL_COMMAND), false),
+            Flag::Keep,
+        ),
+        Verdict::OtherCard => quiet(with_app(c, false), Flag::Keep),
+        Verdict::Ran => {
+            let bus = c.bus;
+            let state = bus.state;
+            let command = judged.command;
+            let done = judged.done;
+            finish(command, card_state::number(state), done)
         }
-        Reply::R6 => {
-            let r6 = Message::R6 {
-                rca: core.bus.rca,
-                word: word,
-            };
-            ended(left, index, r6, sweep)
-        }
-        Reply::Cid => ended(left, index, Message::Cid, sweep),
-        Reply::Csd => ended(left, index, Message::Csd, sweep),
-        Reply::R3(ocr) => ended(left, index, Message::R3(ocr), sweep),
-        Reply::R7 { voltage, pattern } => {
-            let r7 = Message::R7 { voltage, pattern };
-            ended(left, index, r7, sweep)
-        }
+    }
+}
+
+fn flagged(f: Flag, line: Line) -> Line
+    ensures { λ r. ⌜ r ≡ flagged f line ⌝ }
+{
+    match f {
+        Flag::Keep => line,
+        Flag::Set => Line {
+            com_crc_error: true,
+        },
+        Flag::Clear => Line {
+            com_crc_error: false,
+        },
+    }
+}
+
+// The record that a frame leaves, with the marks as its effect left them.
+pub fn kept(next: Core, marks: [u8; 256], flag: Flag, line: Line) -> Card
+    ensures { λ r. ⌜ r ≡ record { core = withMarks next marks; line = flagged flag line } ⌝ }
+{
+    Card {
+        core: with_marks(next, marks),
+        line: flagged(flag, line),
     }
 }

@@ -6,24 +6,25 @@ use Prim.Native.Nat.{ℕ, _≤_, _%_, _/_}
 use native.Mathlib.Omega.{arith}
 use borrow.Author.Tests.{eq-eqb}
 use Rattle.card_model.specs.declared.settings.Settings.{Settings}
-use Rattle.card_model.specs.declared.card.Source.{Source}
-use Rattle.card_model.specs.declared.card.Sink.{Sink}
-use Rattle.card_model.specs.declared.card.State.{State}
-use Rattle.card_model.specs.declared.card.State.the-variants.{Data, Rcv}
-use Rattle.card_model.specs.declared.card.Erase.{Erase}
+use Rattle.card_model.specs.declared.state.Source.{Source}
+use Rattle.card_model.specs.declared.state.Sink.{Sink}
+use Rattle.card_model.specs.declared.state.State.{State}
+use Rattle.card_model.specs.declared.state.Open.the-variants.{Nothing, Read, Write}
+use Rattle.card_model.specs.declared.card.EraseMarks.{EraseMarks}
 use Rattle.card_model.specs.declared.card.Core.{Core}
 use Rattle.card_model.specs.Settings.{BLOCK, capacity}
 use Rattle.card_model.specs.Record.{withState, withWritten, withErase, withLength, withMarks, withPolls, withRca, noErase}
+use Rattle.card_model.specs.State.{number, openOf, sourceAddress, sinkAddress}
 use Rattle.card_model.specs.Execute.{reset}
-use Rattle.card_model.specs.Soundness.{transferAddress, writtenMost, offBlock, badRca}
+use Rattle.card_model.specs.Soundness.{badRca}
 use Rattle.card_model.proofs.Facts.{Transfer, Pending, Marked, Fixed, Size, Sturdy}
 
 module _ (c : Core) (f : Sturdy c) where
-  pub stand : (state : State) (rca n : ℕ) → Transfer (c .settings) state n → badRca state rca ≡ false
+  pub stand : (state : State) (rca n : ℕ) → Transfer (c .settings) (openOf state) n → badRca (number state) rca ≡ false
       → Sturdy (withWritten (withState (withRca c rca) state) n)
   stand state rca n t r = record { fixed = f .fixed; polls = f .polls; size = f .size; transfer = t; erase = f .erase; rca = r; marks = f .marks }
 
-  pub pend : (e : Erase) → Pending (c .settings) e → Sturdy (withErase c e)
+  pub pend : (e : EraseMarks) → Pending (c .settings) e → Sturdy (withErase c e)
   pend e p = record { fixed = f .fixed; polls = f .polls; size = f .size; transfer = f .transfer; erase = p; rca = f .rca; marks = f .marks }
 
   pub resize : (n : ℕ) → Size n → Sturdy (withLength c n)
@@ -40,25 +41,26 @@ none-pending s = record { first = refl; second = refl }
 
 -- ---- open transfers
 
-pub data-transfer : (s : Settings) (src : Source) (n : ℕ) → transferAddress (Data src) ≤ capacity s → n ≤ s .blocks → Transfer s (Data src) n
-unfolding offBlock writtenMost
+pub none-transfer : (s : Settings) (n : ℕ) → n ≤ s .blocks → Transfer s Nothing n
+none-transfer s n h = record { inside = omega arith; aligned = refl; count = h; most = h }
+
+pub data-transfer : (s : Settings) (src : Source) (n : ℕ) → sourceAddress src ≤ capacity s → n ≤ s .blocks → Transfer s (Read src) n
 data-transfer s src n h count = record { inside = h; aligned = refl; count = count; most = count }
 
-pub rcv-transfer : (s : Settings) (k : Sink) (n : ℕ) → k .address ≤ capacity s → k .address % BLOCK ≡ 0 → n ≤ k .address / BLOCK
-    → Transfer s (Rcv k) n
-unfolding transferAddress offBlock writtenMost
+pub rcv-transfer : (s : Settings) (k : Sink) (n : ℕ) → sinkAddress k ≤ capacity s → sinkAddress k % BLOCK ≡ 0 → n ≤ sinkAddress k / BLOCK
+    → Transfer s (Write k) n
 rcv-transfer s k n h aligned most =
-    record { inside = h; aligned = rw (eq-eqb (k .address % BLOCK) 0 aligned); count = omega arith; most = most }
+    record { inside = h; aligned = rw (eq-eqb (sinkAddress k % BLOCK) 0 aligned); count = omega arith; most = most }
 
 -- ---- command 0 and a power-up
 
 pub reset-sturdy : (c : Core) → Fixed (c .settings) (c .csd) → Marked (c .settings) (c .marks) → Sturdy (reset c)
-unfolding transferAddress offBlock writtenMost badRca
+unfolding badRca
 reset-sturdy c fixed marks = record {
   fixed = fixed;
   polls = omega arith;
   size = omega arith;
-  transfer = record { inside = omega arith; aligned = refl; count = omega arith; most = omega arith };
+  transfer = none-transfer (c .settings) 0 (omega arith);
   erase = none-pending (c .settings);
   rca = refl;
   marks = marks;

@@ -1,10 +1,13 @@
--- What holds of a choice holds of both its ways: for tests, for what the state may lack, and for the refusals of a call.
+-- What holds of a choice holds of both its ways: for tests, and for the refusals of a call.
 use mathlib.Core.Path.{_≡_, refl}
-use mathlib.Core.Bool.{Bool, true, false, cond, _||_, true≢false}
+use mathlib.Core.Bool.{Bool, true, false, cond, not, _&&_, _||_, true≢false, and-eq-true-iff}
 use mathlib.Core.List.{List, [], _∷_}
 use mathlib.Core.Option.{Option, none, some}
 use Prim.Native.Nat.{ℕ}
-use Rattle.card_model.specs.Step.{World, Result, Refusal, refuse, unless}
+use native.Mathlib.Omega.{arith}
+use borrow.Author.Tests.{not-false}
+use Rattle.card_model.specs.declared.answer.Rows.{Rows}
+use Rattle.card_model.specs.Step.{World, Result, refuse, applies, refusal, unless}
 
 pub cond-elim {ℓ κ} : {A : Type ℓ} (P : A → Type κ) (b : Bool) {x y : A} → (b ≡ true → P x) → (b ≡ false → P y) → P (cond b x y)
 cond-elim P true yes-case no-case = yes-case refl
@@ -21,20 +24,30 @@ neither false b e = (refl, e)
 pub nor : {a b : Bool} → a ≡ false → b ≡ false → (a || b) ≡ false
 nor {a} {b} p q = rw (p, q)
 
-module _ (R : Result → Result → Type 0) where
-  pub option-either : {A : Type 0} (o : Option A) {x y : Result} {f g : A → Result} → R x y → ((a : A) → R (f a) (g a))
-      → R (elim o [ none ↦ x | some a ↦ f a ]) (elim o [ none ↦ y | some a ↦ g a ])
-  option-either none p q = p
-  option-either (some a) p q = q a
+-- both tests hold
+pub both : (a b : Bool) → not (a && b) ≡ false → (a ≡ true) × (b ≡ true)
+both a b e = and-eq-true-iff a b .0 (not-false (a && b) e)
 
-  pub unless-either : (xs : List Refusal) (v w : World) (out : List ℕ) {x y : Result} → ((k : ℕ) → R (refuse v out k) (refuse w out k)) → R x y
-      → R (unless xs v out x) (unless xs w out y)
-  unfolding unless
-  unless-either [] v w out p q = q
-  unless-either (r ∷ xs) v w out {x} {y} p q =
-      elim (r .applies) as (λ b. R (cond b (refuse v out (r .number)) (unless xs v out x)) (cond b (refuse w out (r .number)) (unless xs w out y)))
-      [ true ↦ p (r .number) | false ↦ unless-either xs v w out p q ]
+pub not-both : {a b : Bool} → a ≡ true → b ≡ true → not (a && b) ≡ false
+not-both {a} {b} p q = rw (p, q)
 
-pub unless-keeps : (P : Result → Type 0) (xs : List Refusal) (w : World) (out : List ℕ) {x : Result} → ((k : ℕ) → P (refuse w out k)) → P x
-    → P (unless xs w out x)
-unless-keeps P xs w out {x} = unless-either (λ a b. P a) xs w w out {x = x} {y = x}
+-- ---- refusals
+
+pub unless-either : (R : Result → Result → Type 0) (o : Option ℕ) (v w : World) (out : List ℕ) {x y : Result}
+    → ((k : ℕ) → R (refuse v out k) (refuse w out k)) → R x y → R (unless o v out x) (unless o w out y)
+unless-either R none v w out p q = q
+unless-either R (some k) v w out p q = p k
+
+pub unless-keeps : (P : Result → Type 0) (o : Option ℕ) (w : World) (out : List ℕ) {x : Result} → ((k : ℕ) → P (refuse w out k))
+    → (o ≡ none → P x) → P (unless o w out x)
+unless-keeps P none w out p q = q refl
+unless-keeps P (some k) w out p q = p k
+
+-- where no row applies, the first does not, and none of the others
+pub spared : (n : ℕ) (ns : List ℕ) (r : Rows) → refusal (n ∷ ns) r ≡ none → (applies r n ≡ false) × (refusal ns r ≡ none)
+unfolding refusal
+spared n ns r e = go (applies r n) refl e
+  where
+    go : (b : Bool) → applies r n ≡ b → cond b (some n) (refusal ns r) ≡ none → (b ≡ false) × (refusal ns r ≡ none)
+    go true q e = let z : _≡_ {A = ℕ} 0 1 = cc in absurd (omega arith)
+    go false q e = (refl, e)

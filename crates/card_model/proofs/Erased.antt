@@ -1,74 +1,98 @@
--- Commands 32, 33 and 38: pending marks are below capacity, so a sweep is inside the card.
+-- Erase: 32 and 33 keep the erase marks below capacity, so a sweep is inside the card.
 use mathlib.Core.Path.{_≡_, refl}
 use mathlib.Core.Bool.{true, false, _&&_, false≢true, and-eq-true-iff}
 use mathlib.Core.List.{[]}
-use Prim.Native.Nat.{ℕ, _/_, _≤_, _<_}
+use Prim.Native.Nat.{ℕ, _+_, _-_, _/_, _≤_, _<_}
 use native.Mathlib.Omega.{arith}
 use borrow.Author.Tests.{leb-false, ltb-false}
 use lib.Dec.{ltb}
-use Rattle.card_model.specs.declared.card.Mark.{Mark}
-use Rattle.card_model.specs.declared.card.Mark.the-variants.{Unset, At}
-use Rattle.card_model.specs.declared.card.Erase.{Erase as Marks}
-use Rattle.card_model.specs.declared.card.Kept.{Kept}
+use Rattle.card_model.specs.declared.card.EraseMark.{EraseMark}
+use Rattle.card_model.specs.declared.card.EraseMark.the-variants.{Unset, At}
+use Rattle.card_model.specs.declared.card.EraseMarks.{EraseMarks}
 use Rattle.card_model.specs.declared.card.Core.{Core}
-use Rattle.card_model.specs.declared.command.Command.the-variants.{EraseWrBlkStart, EraseWrBlkEnd, Erase}
+use Rattle.card_model.specs.declared.command.Command.the-variants.{Erase}
+use Rattle.card_model.specs.declared.done.Response.the-variants.{R1}
+use Rattle.card_model.specs.declared.done.Done.{Done}
 use Rattle.card_model.specs.Settings.{BLOCK, capacity}
 use Rattle.card_model.specs.Record.{noErase, isSet, address}
-use Rattle.card_model.specs.Table.{moves, legal}
-use Rattle.card_model.specs.Status.{noBits, ERASE-SEQ-ERROR, ERASE-PARAM}
-use Rattle.card_model.specs.Checks.{inCard, addressChecks}
-use Rattle.card_model.specs.Execute.{r1, Done, ran, dropErase, eraseStart, eraseEnd, sweepBits, erase, run}
-use Rattle.card_model.specs.Soundness.{outside}
+use Rattle.card_model.specs.Status.{OUT-OF-RANGE, ERASE-SEQ-ERROR, ERASE-PARAM}
+use Rattle.card_model.specs.Table.{row, legal}
+use Rattle.card_model.specs.Protect.{whole, anyGuarded}
+use Rattle.card_model.specs.Checks.{_sets_, outside, addressChecks}
+use Rattle.card_model.specs.Execute.{ran, raise, dropErase, eraseStart, eraseEnd, skipped, erase}
+use Rattle.card_model.specs.Soundness.{markOutside}
 use Rattle.card_model.proofs.Choices.{cond-elim}
 use Rattle.card_model.proofs.Facts.{Sturdy}
 use Rattle.card_model.proofs.Changes.{pend, none-pending}
 use Rattle.card_model.proofs.Moves.{all, keepsRca}
 use Rattle.card_model.proofs.Started.{Right, right, passed, checked-right}
-use Rattle.card_model.proofs.Opened.{moved-right}
+use Rattle.card_model.proofs.Opened.{moved-sturdy}
 
 -- a mark that is set is below what it is not outside of
-mark-in : (top : ℕ) (m : Mark) → isSet m ≡ true → outside top m ≡ false → address m < top
+mark-in : (top : ℕ) (m : EraseMark) → isSet m ≡ true → markOutside top m ≡ false → address m < top
 mark-in top Unset e h = absurd (false≢true e)
 mark-in top (At a) e h = leb-false top a h
 
+-- the same record, but for its kept bits
+pub record Alike (c d : Core) : Type 0 where
+  pub sturdy : Sturdy d
+  pub state : d .bus ≡ c .bus
+  pub settings : d .settings ≡ c .settings
+  pub marks : d .marks ≡ c .marks
+
 module _ (c : Core) (f : Sturdy c) where
-  pub start-right : (a : ℕ) → Right (c .settings) (run EraseWrBlkStart c a)
-  unfolding run eraseStart
+  pub start-right : (a : ℕ) → Right c (eraseStart c a)
+  unfolding eraseStart
   start-right a =
-      checked-right c (addressChecks c a) _ f
-      (λ e. right (pend c f (record { first = At a; second = Unset }) (record { first = passed (inCard c a) [] e .0; second = refl })) refl)
-
-  drop-right : (k : Kept) → Right (c .settings) (ran (dropErase c k) r1)
-  drop-right k = right (pend c f noErase (none-pending (c .settings))) refl
-
-  pub end-right : (a : ℕ) → Right (c .settings) (run EraseWrBlkEnd c a)
-  unfolding run eraseEnd
-  end-right a =
-      cond-elim (λ (d : Done). Right (c .settings) d) (isSet (c .erase .first))
-      (λ t.
-      checked-right c (addressChecks c a) _ f
+      let top = capacity (c .settings) in
+      checked-right c (addressChecks top a) _ f
       (λ e.
-      let both : Marks = record { first = c .erase .first; second = At a } in
-      right (pend c f both (record { first = f .erase .first; second = passed (inCard c a) [] e .0 })) refl))
+      right (pend c f (record { first = At a; second = Unset }) (record { first = passed (outside top a sets OUT-OF-RANGE) [] e .0; second = refl }))
+      refl refl)
+
+  drop-right : (n : ℕ) → Right c (ran (dropErase (raise c n)) R1)
+  drop-right n = right (pend c f noErase (none-pending (c .settings))) refl refl
+
+  pub end-right : (a : ℕ) → Right c (eraseEnd c a)
+  unfolding eraseEnd
+  end-right a =
+      let top = capacity (c .settings) in
+      cond-elim (λ (d : Done). Right c d) (isSet (c .erase .first))
+      (λ t.
+      checked-right c (addressChecks top a) _ f
+      (λ e.
+      let both : EraseMarks = record { first = c .erase .first; second = At a } in
+      right (pend c f both (record { first = f .erase .first; second = passed (outside top a sets OUT-OF-RANGE) [] e .0 })) refl refl))
       (λ t. drop-right ERASE-SEQ-ERROR)
 
+  skipped-alike : (first count : ℕ) → Alike c (dropErase (skipped c first count))
+  unfolding skipped
+  skipped-alike first count =
+      let dropped = pend c f noErase (none-pending (c .settings)) in
+      cond-elim (λ (d : Core). Alike c (dropErase d)) (anyGuarded (whole (c .settings)) (c .marks) first count)
+      (λ e. record { sturdy = dropped; state = refl; settings = refl; marks = refl })
+      (λ e. record { sturdy = dropped; state = refl; settings = refl; marks = refl })
+
 -- the last block of a sweep is a block of the card
-pub erase-right : (c : Core) → Sturdy c → legal Erase (c .bus .state) ≡ true → Right (c .settings) (erase c)
-unfolding erase all keepsRca moves
+pub erase-right : (c : Core) → Sturdy c → legal Erase (c .bus .state) ≡ true → Right c (erase c)
+unfolding erase all keepsRca row
 erase-right c f permitted =
     let first = address (c .erase .first) in
     let second = address (c .erase .second) in
-    let P : Done → Type 0 = λ d. Right (c .settings) d in
+    let P : Done → Type 0 = λ d. Right c d in
     cond-elim P (isSet (c .erase .first) && isSet (c .erase .second))
     (λ t. cond-elim P (ltb second first) (λ e. drop-right c f ERASE-PARAM)
     (λ e.
     let order : first ≤ second = ltb-false second first e in
     let set = and-eq-true-iff (isSet (c .erase .first)) (isSet (c .erase .second)) .0 t in
     let below : second < capacity (c .settings) = mark-in (capacity (c .settings)) (c .erase .second) (set .1) (f .erase .second) in
-    let d = dropErase c (sweepBits c (first / BLOCK) (second / BLOCK)) in
+    let count = second / BLOCK + 1 - first / BLOCK in
+    let d = dropErase (skipped c (first / BLOCK) count) in
+    let a : Alike c d = skipped-alike c f (first / BLOCK) count in
     record {
-      sturdy = moved-right d (drop-right c f noBits .sturdy) Erase permitted r1 refl .sturdy;
-      settings = refl;
-      inside = (omega arith, omega arith);
+      sturdy = moved-sturdy d (a .sturdy) Erase (rw (a .state) permitted) refl;
+      settings = a .settings;
+      marks = a .marks;
+      inside = omega arith;
     }))
     (λ t. drop-right c f ERASE-SEQ-ERROR)

@@ -1,31 +1,33 @@
 -- A sound record as facts about its parts: the one form that the laws of calls read and give.
 use mathlib.Core.Path.{_≡_, refl}
-use mathlib.Core.Bool.{Bool, true, false, not, _&&_, and-eq-true-iff}
+use mathlib.Core.Bool.{Bool, true, false}
 use mathlib.Core.List.{List, [], _∷_}
 use Prim.Native.Nat.{ℕ, zero, suc, _-_, _≤_}
-use borrow.Author.Tests.{ltb-false, leb-true, not-false, le-ltb, le-leb}
+use borrow.Author.Tests.{ltb-false, leb-true, le-ltb, le-leb}
 use lib.Dec.{leb}
 use lib.ListN.{getD}
 use Rattle.reg_csd.specs.Csd.{csdValues}
 use Rattle.reg_csd.specs.declared.Csd.{Csd}
 use Rattle.card_model.specs.declared.settings.Settings.{Settings}
-use Rattle.card_model.specs.declared.card.State.{State}
-use Rattle.card_model.specs.declared.card.Erase.{Erase}
+use Rattle.card_model.specs.declared.state.State.{State}
+use Rattle.card_model.specs.declared.state.Open.{Open}
+use Rattle.card_model.specs.declared.card.EraseMarks.{EraseMarks}
 use Rattle.card_model.specs.declared.card.Core.{Core}
 use Rattle.card_model.specs.Settings.{BLOCK, capacity, groups, allowed, csdOf}
-use Rattle.card_model.specs.Soundness.{equal, transferAddress, writtenMost, offBlock, outside, badRca, markedFrom, badApp, unsoundTests, anyOf, unsound}
-use Rattle.card_model.proofs.Choices.{neither, nor}
+use Rattle.card_model.specs.State.{number, openOf, transferAddress}
+use Rattle.card_model.specs.Soundness.{equal, writtenMost, offWrite, markOutside, badRca, markedFrom, badApp, unsoundTests, anyOf, unsound}
+use Rattle.card_model.proofs.Choices.{neither, nor, both, not-both}
 
--- the transfer that a state stands for is inside the card, and A22's count is not beyond it
-pub record Transfer (s : Settings) (state : State) (written : ℕ) : Type 0 where
-  pub inside : transferAddress state ≤ capacity s
-  pub aligned : offBlock state ≡ false
+-- the transfer that is open is inside the card, and A22's count is not beyond it
+pub record Transfer (s : Settings) (o : Open) (written : ℕ) : Type 0 where
+  pub inside : transferAddress o ≤ capacity s
+  pub aligned : offWrite o ≡ false
   pub count : written ≤ s .blocks
-  pub most : written ≤ writtenMost state (s .blocks)
+  pub most : written ≤ writtenMost o (s .blocks)
 
-pub record Pending (s : Settings) (e : Erase) : Type 0 where
-  pub first : outside (capacity s) (e .first) ≡ false
-  pub second : outside (capacity s) (e .second) ≡ false
+pub record Pending (s : Settings) (e : EraseMarks) : Type 0 where
+  pub first : markOutside (capacity s) (e .first) ≡ false
+  pub second : markOutside (capacity s) (e .second) ≡ false
 
 -- no mark behind the last group
 abbrev pub Marked : Settings → List ℕ → Type 0
@@ -40,13 +42,13 @@ pub record Size (n : ℕ) : Type 0 where
   pub high : n ≤ BLOCK
 
 -- over the parts, so that what a command leaves alone needs no law
-pub record Parts (s : Settings) (d : Csd) (state : State) (address left : ℕ) (e : Erase) (length written : ℕ) (m : List ℕ) : Type 0 where
+pub record Parts (s : Settings) (d : Csd) (state : State) (address left : ℕ) (e : EraseMarks) (length written : ℕ) (m : List ℕ) : Type 0 where
   pub fixed : Fixed s d
   pub polls : left ≤ s .polls
   pub size : Size length
-  pub transfer : Transfer s state written
+  pub transfer : Transfer s (openOf state) written
   pub erase : Pending s e
-  pub rca : badRca state address ≡ false
+  pub rca : badRca (number state) address ≡ false
   pub marks : Marked s m
 
 -- all but the application mark, which a command sets last
@@ -54,7 +56,7 @@ abbrev pub Sturdy : Core → Type 0
 Sturdy c = Parts (c .settings) (c .csd) (c .bus .state) (c .bus .rca) (c .bus .polls) (c .erase) (c .length) (c .written) (c .marks)
 
 abbrev pub Facts : Core → Type 0
-Facts c = Sturdy c × (badApp (c .bus .state) (c .bus .app) ≡ false)
+Facts c = Sturdy c × (badApp (number (c .bus .state)) (c .bus .app) ≡ false)
 
 -- ---- the list of tests is those facts
 
@@ -63,12 +65,6 @@ unfolding anyOf
 none-at [] e i = refl
 none-at (b ∷ bs) e zero = neither b (anyOf bs) e .0
 none-at (b ∷ bs) e (suc i) = none-at bs (neither b (anyOf bs) e .1) i
-
-both : (a b : Bool) → not (a && b) ≡ false → (a ≡ true) × (b ≡ true)
-both a b e = and-eq-true-iff a b .0 (not-false (a && b) e)
-
-not-both : {a b : Bool} → a ≡ true → b ≡ true → not (a && b) ≡ false
-not-both {a} {b} p q = rw (p, q)
 
 pub facts-sound : (c : Core) → unsound c ≡ false → Facts c
 unfolding unsound unsoundTests
@@ -81,10 +77,10 @@ facts-sound c e =
         polls = ltb-false (c .settings .polls) (c .bus .polls) (test 1);
         size = record { low = leb-true 1 (c .length) (size .0); high = leb-true (c .length) BLOCK (size .1) };
         transfer = record {
-          inside = ltb-false (capacity (c .settings)) (transferAddress (c .bus .state)) (test 3);
+          inside = ltb-false (capacity (c .settings)) (transferAddress (openOf (c .bus .state))) (test 3);
           aligned = test 4;
           count = ltb-false (c .settings .blocks) (c .written) (test 5);
-          most = ltb-false (writtenMost (c .bus .state) (c .settings .blocks)) (c .written) (test 6);
+          most = ltb-false (writtenMost (openOf (c .bus .state)) (c .settings .blocks)) (c .written) (test 6);
         };
         erase = record { first = test 7; second = test 8 };
         rca = test 9;
@@ -101,8 +97,8 @@ sound-facts c f =
     nor (not-both (s .fixed .settings) (s .fixed .csd))
     (nor (le-ltb (c .settings .polls) (c .bus .polls) (s .polls))
     (nor (not-both (le-leb 1 (c .length) (s .size .low)) (le-leb (c .length) BLOCK (s .size .high)))
-    (nor (le-ltb (capacity (c .settings)) (transferAddress (c .bus .state)) (t .inside))
+    (nor (le-ltb (capacity (c .settings)) (transferAddress (openOf (c .bus .state))) (t .inside))
     (nor (t .aligned)
     (nor (le-ltb (c .settings .blocks) (c .written) (t .count))
-    (nor (le-ltb (writtenMost (c .bus .state) (c .settings .blocks)) (c .written) (t .most))
+    (nor (le-ltb (writtenMost (openOf (c .bus .state)) (c .settings .blocks)) (c .written) (t .most))
     (nor (s .erase .first) (nor (s .erase .second) (nor (s .rca) (nor (s .marks) (nor (f .1) refl)))))))))))

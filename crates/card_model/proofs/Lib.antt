@@ -1,4 +1,4 @@
--- The claims about the card: the bench readings; that every call keeps a sound record sound; demand 3.
+-- The claims about the card: the bench readings; that every call keeps a sound record sound; demand 3; the registers on the wire.
 pub mod Readings
 pub mod Choices
 pub mod Facts
@@ -21,3 +21,4 @@ pub mod Hidden
 pub mod Alike
 pub mod Damaged
 pub mod History
+pub mod Registers

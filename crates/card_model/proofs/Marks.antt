@@ -14,7 +14,7 @@ use Rattle.crc.specs.Bits.{bit, digit}
 use Rattle.crc.proofs.Bits.{digit-bit, digit-lt}
 use Rattle.card_model.specs.declared.settings.Settings.{Settings}
 use Rattle.card_model.specs.Settings.{capacity, groups}
-use Rattle.card_model.specs.Checks.{groupOf, putBit, mark}
+use Rattle.card_model.specs.Protect.{groupOf, putBit, mark}
 use Rattle.card_model.specs.Soundness.{anyByte, markedFrom}
 use Rattle.card_model.proofs.Facts.{Marked}
 
@@ -98,11 +98,11 @@ markedFrom-other v marks g h lt =
     (byte-above v marks g h lt)
     (drop-set-lt (h / 8 + 1) marks (g / 8) (putBit v (g % 8) (getD marks (g / 8) 0)) near)
 
-group-in : (s : Settings) (a : ℕ) → a < capacity s → groupOf a < groups s
+pub group-in : (s : Settings) (a : ℕ) → a < capacity s → groupOf a < groups s
 group-in s a h = omega arith
 
-pub mark-marked : (s : Settings) (v : Bool) (marks : List ℕ) (a : ℕ) → a < capacity s → Marked s marks → Marked s (mark v marks (groupOf a))
-mark-marked s v marks a h e = markedFrom-other v marks (groupOf a) (groups s) (group-in s a h) ∙ e
+pub mark-marked : (s : Settings) (v : Bool) (marks : List ℕ) (g : ℕ) → g < groups s → Marked s marks → Marked s (mark v marks g)
+mark-marked s v marks g h e = markedFrom-other v marks g (groups s) h ∙ e
 
 -- ---- the marks of a power-up
 

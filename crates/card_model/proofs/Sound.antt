@@ -2,8 +2,8 @@
 use mathlib.Core.Path.{_≡_, refl, sym, ap, subst, _∙_}
 use mathlib.Core.Bool.{true, false, not}
 use mathlib.Core.List.{List, [], _∷_}
-use mathlib.Core.Option.{Option, none, some}
-use Prim.Native.Nat.{ℕ, _-_}
+use Rattle.codec.specs.Answer.{done}
+use Prim.Native.Nat.{ℕ}
 use borrow.Author.Tests.{eqb-true, eq-eqb, not-false}
 use lib.Dec.{eqb}
 use lib.ListN.{length}
@@ -11,22 +11,25 @@ use Rattle.reg_csd.specs.Csd.{csdValues}
 use Rattle.card_model.specs.declared.settings.Settings.{Settings}
 use Rattle.card_model.specs.declared.card.Card.{Card}
 use Rattle.card_model.specs.Settings.{capacity, groups, allowed, csdOf}
+use Rattle.card_model.specs.Record.{withMarks}
+use Rattle.card_model.specs.Protect.{whole}
+use Rattle.card_model.specs.Effects.{stored}
 use Rattle.card_model.specs.Frame.{Turn, receive}
 use Rattle.card_model.specs.Data.{takeFrom, blockInto, overFrom}
 use Rattle.card_model.specs.Soundness.{equal, badApp}
-use Rattle.card_model.specs.Step.{powerUp, commandFrame, blockIn, takeBlock, busyOver, World, Result, Refusal, refuse, show, unless, fresh, start, poweredUp, framed, sourceOf, sinkOf, leads, given, taken, overed, step, Sound, KeepsSound}
-use Rattle.card_model.specs.History.{StartsSound}
-use Rattle.card_model.proofs.Choices.{cond-elim}
-use Rattle.card_model.proofs.Facts.{Facts, facts-sound, sound-facts}
-use Rattle.card_model.proofs.Changes.{reset-sturdy}
-use Rattle.card_model.proofs.Extent.{length-affected}
+use Rattle.card_model.specs.Step.{powerUp, commandFrame, blockIn, takeBlock, busyOver, World, world, Result, over, after, show, applies, fresh, start, blockSize, opened, powerRefusal, frameRefusal, blockRefusal, takeRefusal, overRefusal, poweredUp, framed, given, taken, overed, step}
+use Rattle.card_model.specs.History.{Sound, KeepsSound, StartsSound}
+use Rattle.card_model.proofs.Choices.{unless-keeps, spared}
+use Rattle.card_model.proofs.Facts.{Marked, Facts, facts-sound, sound-facts}
+use Rattle.card_model.proofs.Changes.{remark, reset-sturdy}
+use Rattle.card_model.proofs.Extent.{length-affected, marked-affected}
 use Rattle.card_model.proofs.Frames.{Lasting, receive-lasting}
 use Rattle.card_model.proofs.Marks.{none-marked}
-use Rattle.card_model.proofs.Transfers.{source-open, sink-open, take-lasting, block-lasting, over-lasting}
+use Rattle.card_model.proofs.Transfers.{take-lasting, block-lasting, over-lasting}
 
 -- ---- a power-up
 
-equal-refl : (xs : List ℕ) → equal xs xs ≡ true
+pub equal-refl : (xs : List ℕ) → equal xs xs ≡ true
 unfolding equal
 equal-refl [] = refl
 equal-refl (x ∷ xs) = rw (eq-eqb x x refl, equal-refl xs)
@@ -36,86 +39,73 @@ unfolding fresh badApp
 fresh-facts s e =
     (reset-sturdy (fresh s) (record { settings = e; csd = equal-refl (csdValues (csdOf s)) }) (none-marked 256 (groups s)), refl)
 
-start-sound : (s : Settings) (memory : List ℕ) → allowed s ≡ true → length memory ≡ capacity s → Sound (record { card = start s; memory = memory })
+start-sound : (s : Settings) (memory : List ℕ) → allowed s ≡ true → length memory ≡ capacity s → Sound (world (start s) memory)
 unfolding start fresh
 start-sound s memory e l = record { core = sound-facts (fresh s) (fresh-facts s e); memory = l }
-
--- ---- refusals
-
--- none of them applies
-abbrev Spared : List Refusal → Type 0
-Spared [] = Unit {0}
-Spared (x ∷ xs) = (x .applies ≡ false) × Spared xs
-
-unless-sound : (xs : List Refusal) (w : World) (out : List ℕ) (r : Result) → Sound w → (Spared xs → Sound (r .world))
-    → Sound (unless xs w out r .world)
-unfolding unless
-unless-sound [] w out r s h = h tt
-unless-sound (x ∷ xs) w out r s h =
-    cond-elim (λ (q : Result). Sound (q .world)) (x .applies) (λ t. s) (λ t. unless-sound xs w out r s (λ rest. h (t, rest)))
 
 equal-spared : (m n : ℕ) → not (eqb m n) ≡ false → m ≡ n
 equal-spared m n e = eqb-true m n (not-false (eqb m n) e)
 
--- ---- a call that runs
-
-show-sound : (w : World) (out : List ℕ) (t : Turn) → Sound w → Lasting (w .card .core .settings) t → Sound (show w out t .world)
-unfolding show
-show-sound w out t s l = record {
-  core = sound-facts (t .core) (l .facts);
-  memory =
-      length-affected (w .card .core) (w .card .core .settings .blocks) (t .effect) (w .memory) (l .inside) (s .memory)
-      ∙ ap capacity (sym (l .settings));
-}
+abbrev Good : Result → Type 0
+Good r = Sound (r .world)
 
 module _ (w : World) (s : Sound w) where
   core-facts : Facts (w .card .core)
   core-facts = facts-sound (w .card .core) (s .core)
 
-  -- row 5, or the call
-  open-sound : {A : Type 0} (o : Option A) (out : List ℕ) (turn : A → Turn) → ((k : A) → o ≡ some k → Lasting (w .card .core .settings) (turn k))
-      → Sound ((elim o as (λ x. Result) [ none ↦ refuse w out 5 | some k ↦ show w out (turn k) ]) .world)
-  open-sound none out turn h = s
-  open-sound (some k) out turn h = show-sound w out (turn k) s (h k refl)
+  -- ---- a call that runs
+
+  show-sound : (out : List ℕ) (t : Turn) → Lasting (w .card .core) t → Sound (show w out t .world)
+  unfolding show
+  show-sound out t l =
+      let settings = w .card .core .settings in
+      let m = stored (w .memory) (w .card .core .marks) in
+      let wp = whole settings in
+      let kept : Marked (t .core .settings) (after w t .marks) =
+      subst (λ (x : Settings). Marked x (after w t .marks)) (sym (l .settings))
+      (marked-affected settings wp (t .payload) m (t .effect) (l .inside) (core-facts .0 .marks)) in
+      record {
+        core = sound-facts (withMarks (t .core) (after w t .marks)) (remark (t .core) (l .facts .0) (after w t .marks) kept, l .facts .1);
+        memory = length-affected settings wp (t .payload) m (t .effect) (l .inside) (s .memory) ∙ ap capacity (sym (l .settings));
+      }
 
   -- ---- the five calls
 
   poweredUp-sound : (settings : Settings) → Sound (poweredUp w settings .world)
-  unfolding poweredUp
+  unfolding poweredUp applies
   poweredUp-sound settings =
-      unless-sound _ w [] _ s
-      (λ free.
-      let size = equal-spared (length (w .memory)) (capacity settings) (free .0) in
-      start-sound settings (w .memory) (not-false (allowed settings) (free .1 .0)) size)
+      unless-keeps Good (powerRefusal w settings) w [] {x = record { answer = done over; world = world (start settings) (w .memory); out = [] }} (λ k. s)
+      (λ e.
+      let three = spared 3 (6 ∷ []) _ e in
+      let six = spared 6 [] _ (three .1) in
+      start-sound settings (w .memory) (not-false (allowed settings) (six .0)) (equal-spared (length (w .memory)) (capacity settings) (three .0)))
 
   framed-sound : (frame out : List ℕ) → Sound (framed w frame out .world)
   unfolding framed
   framed-sound frame out =
-      unless-sound _ w out _ s
-      (λ free. show-sound w out (receive (w .card .core) frame) s (receive-lasting (w .card .core) frame core-facts))
+      let t = receive (w .card .core) frame in
+      unless-keeps Good (frameRefusal w frame out) w out {x = show w out t} (λ k. s) (λ e. show-sound out t (receive-lasting (w .card .core) frame core-facts))
 
   given-sound : (packet : List ℕ) → Sound (given w packet .world)
-  unfolding given
+  unfolding given applies
   given-sound packet =
-      let c = w .card .core in
-      unless-sound _ w [] _ s
-      (λ free. open-sound (sinkOf (c .bus .state)) [] (λ k. blockInto k c packet)
-      (λ k e. block-lasting c core-facts k (sink-open (c .bus .state) k e) packet (equal-spared (length packet) 514 (free .0))))
+      let t = blockInto (opened w) (w .card .core) packet in
+      unless-keeps Good (blockRefusal w packet) w [] {x = show w [] t} (λ k. s)
+      (λ e.
+      let one = spared 1 (2 ∷ 3 ∷ 5 ∷ []) _ e in
+      show-sound [] t (block-lasting (w .card .core) core-facts packet (equal-spared (length packet) (blockSize (w .card .core)) (one .0))))
 
   taken-sound : (out : List ℕ) → Sound (taken w out .world)
   unfolding taken
   taken-sound out =
-      let c = w .card .core in
-      unless-sound _ w out _ s
-      (λ free. open-sound (sourceOf (c .bus .state)) out (λ k. takeFrom k c (w .memory))
-      (λ k e. take-lasting c core-facts (w .memory) k (source-open (c .bus .state) k e)))
+      let t = takeFrom (opened w) (w .card .core) (w .memory) in
+      unless-keeps Good (takeRefusal w out) w out {x = show w out t} (λ k. s) (λ e. show-sound out t (take-lasting (w .card .core) core-facts (w .memory)))
 
   overed-sound : Sound (overed w .world)
   unfolding overed
   overed-sound =
-      let c = w .card .core in
-      unless-sound _ w [] _ s
-      (λ free. open-sound (leads (c .bus .state)) [] (λ to. overFrom to c) (λ to e. over-lasting c core-facts (c .bus .state) to refl e))
+      let t = overFrom (opened w) (w .card .core) in
+      unless-keeps Good (overRefusal w) w [] {x = show w [] t} (λ k. s) (λ e. show-sound [] t (over-lasting (w .card .core) core-facts))
 
 -- ---- the claims
 
@@ -129,4 +119,4 @@ keeps-sound w busyOver s = overed-sound w s
 
 pub starts-sound : StartsSound
 starts-sound w h =
-    subst (λ (c : Card). Sound (record { card = c; memory = w .memory })) (sym (h .powered)) (start-sound (h .settings) (w .memory) (h .sizes) (h .memory))
+    subst (λ (c : Card). Sound (world c (w .memory))) (sym (h .powered)) (start-sound (h .settings) (w .memory) (h .permitted) (h .memory))

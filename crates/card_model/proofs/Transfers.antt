@@ -1,175 +1,212 @@
 -- Data blocks and busy over keep a record sound, and a block that is stored is inside the card.
-use mathlib.Core.Path.{_≡_, refl, sym, ap, subst, _∙_}
-use mathlib.Core.Bool.{true, false, not}
+use mathlib.Core.Path.{_≡_, refl, sym, subst, _∙_}
+use mathlib.Core.Bool.{Bool, true, false, not, _&&_}
 use mathlib.Core.List.{List}
-use mathlib.Core.Option.{Option, none, some}
-use Prim.Native.Nat.{ℕ, _+_, _/_, _%_, _≤_, _<_}
+use Prim.Native.Nat.{ℕ, _+_, _-_, _/_, _%_, _≤_, _<_}
 use native.Mathlib.Omega.{arith}
 use borrow.Author.Tests.{leb-false, ltb-false, eqb-true, not-false}
-use lib.Dec.{eqb, leb, ltb}
+use lib.Dec.{eqb}
 use lib.ListN.{length, length-take}
 use Rattle.wire_packet.specs.Packet.{packetRight, payloadOf}
-use Rattle.card_model.specs.declared.card.Source.{Source}
-use Rattle.card_model.specs.declared.card.Source.the-variants.{Blocks, WriteProtect, SdStatus, WrittenBlocks, Scr}
-use Rattle.card_model.specs.declared.card.Sink.{Sink}
-use Rattle.card_model.specs.declared.card.State.{State}
-use Rattle.card_model.specs.declared.card.State.the-variants.{Idle, Ready, Ident, Stby, Tran, Data, Rcv, Prg, Dis, Ina}
+use Rattle.card_model.specs.declared.state.Source.{Source}
+use Rattle.card_model.specs.declared.state.Source.the-variants.{Blocks, WriteProtect, SdStatus, WrittenBlocks, Scr}
+use Rattle.card_model.specs.declared.state.Sink.{Sink}
+use Rattle.card_model.specs.declared.state.Sink.the-variants.{Single, Multiple}
+use Rattle.card_model.specs.declared.state.State.{State}
+use Rattle.card_model.specs.declared.state.State.the-variants.{Idle, Ready, Ident, Stby, Tran, Data, Rcv, Prg, Dis, Ina}
+use Rattle.card_model.specs.declared.state.Open.{Open}
+use Rattle.card_model.specs.declared.state.Open.the-variants.{Nothing, Read, Write, Busy}
 use Rattle.card_model.specs.declared.card.Core.{Core}
 use Rattle.card_model.specs.Settings.{BLOCK, capacity}
 use Rattle.card_model.specs.Record.{withState, withWritten}
-use Rattle.card_model.specs.Table.{Name, tran, stby, prg, arrive}
-use Rattle.card_model.specs.Checks.{guarded}
-use Rattle.card_model.specs.Execute.{same}
+use Rattle.card_model.specs.State.{number, openOf, sourceAddress, sinkAddress, sink}
+use Rattle.card_model.specs.Protect.{whole, guarded}
+use Rattle.card_model.specs.Checks.{outside, crossing}
 use Rattle.card_model.specs.Frame.{Turn, token}
-use Rattle.card_model.specs.Data.{said, takeFrom, blockInto, overFrom, sink, holdWrite, stored, REJECTED}
-use Rattle.card_model.specs.Soundness.{transferAddress, writtenMost, offBlock, badRca, badApp}
-use Rattle.card_model.specs.Step.{sourceOf, sinkOf, leads}
+use Rattle.card_model.specs.Data.{said, takeSource, takeFrom, writeInto, blockInto, overFrom, holdWrite, accepted, REJECTED}
+use Rattle.card_model.specs.Soundness.{badRca, badApp}
+use Rattle.card_model.specs.Step.{blockSize}
 use Rattle.card_model.proofs.Choices.{cond-elim}
 use Rattle.card_model.proofs.Facts.{Transfer, Facts}
-use Rattle.card_model.proofs.Changes.{stand, data-transfer, rcv-transfer}
+use Rattle.card_model.proofs.Changes.{stand, none-transfer, data-transfer, rcv-transfer}
 use Rattle.card_model.proofs.Frames.{Lasting, lasting}
-use Rattle.card_model.proofs.Moves.{arrive-transfer}
+use Rattle.card_model.proofs.Opened.{sink-address}
 
--- ---- which transfer is open
+-- ---- the states from stby to dis
 
-pub source-open : (s : State) (k : Source) → sourceOf s ≡ some k → s ≡ Data k
-unfolding sourceOf
-source-open (Data s) k e = cc
-source-open (Rcv s) k e = cc
-source-open Idle k e = cc
-source-open Ready k e = cc
-source-open Ident k e = cc
-source-open Stby k e = cc
-source-open Tran k e = cc
-source-open Prg k e = cc
-source-open Dis k e = cc
-source-open Ina k e = cc
+-- the RCA is not zero, and the application mark may stand
+record Selected (s : State) : Type 0 where
+  rca : (n : ℕ) → badRca (number s) n ≡ eqb n 0
+  app : (b : Bool) → badApp (number s) b ≡ false
 
-pub sink-open : (s : State) (k : Sink) → sinkOf s ≡ some k → s ≡ Rcv k
-unfolding sinkOf
-sink-open (Data s) k e = cc
-sink-open (Rcv s) k e = cc
-sink-open Idle k e = cc
-sink-open Ready k e = cc
-sink-open Ident k e = cc
-sink-open Stby k e = cc
-sink-open Tran k e = cc
-sink-open Prg k e = cc
-sink-open Dis k e = cc
-sink-open Ina k e = cc
+nowhere : (b : Bool) → (b && false) ≡ false
+nowhere true = refl
+nowhere false = refl
 
-nowhere : {to : State} → _≡_ {A = Option State} none (some to) → ⊥
-nowhere e = let z : _≡_ {A = ℕ} 0 1 = cc in omega arith
+stby-selected : Selected Stby
+unfolding badRca badApp
+stby-selected = record { rca = λ n. refl; app = nowhere }
+
+tran-selected : Selected Tran
+unfolding badRca badApp
+tran-selected = record { rca = λ n. refl; app = nowhere }
+
+data-selected : (s : Source) → Selected (Data s)
+unfolding badRca badApp
+data-selected s = record { rca = λ n. refl; app = nowhere }
+
+rcv-selected : (s : Sink) → Selected (Rcv s)
+unfolding badRca badApp
+rcv-selected s = record { rca = λ n. refl; app = nowhere }
+
+prg-selected : Selected Prg
+unfolding badRca badApp
+prg-selected = record { rca = λ n. refl; app = nowhere }
+
+dis-selected : Selected Dis
+unfolding badRca badApp
+dis-selected = record { rca = λ n. refl; app = nowhere }
+
+-- what is known of a state by what it has open
+abbrev Opens : Open → State → Type 0
+Opens Nothing s = Unit {0}
+Opens (Read src) s = Selected s
+Opens (Write k) s = Selected s
+Opens (Busy to) s = Selected s × Selected to × (openOf to ≡ Nothing)
+
+opens : (s : State) → Opens (openOf s) s
+opens Idle = tt
+opens Ready = tt
+opens Ident = tt
+opens Stby = tt
+opens Tran = tt
+opens (Data s) = data-selected s
+opens (Rcv s) = rcv-selected s
+opens Prg = (prg-selected, tran-selected, refl)
+opens Dis = (dis-selected, stby-selected, refl)
+opens Ina = tt
 
 module _ (c : Core) (f : Facts c) where
-  here : (s : State) → c .bus .state ≡ s → Transfer (c .settings) s (c .written)
-  here s e = rw e at (f .0 .transfer)
+  -- from one such state to another
+  goes : (to : State) (n : ℕ) → Selected (c .bus .state) → Selected to → Transfer (c .settings) (openOf to) n
+      → Facts (withWritten (withState c to) n)
+  goes to n here there t =
+      (stand c (f .0) to (c .bus .rca) n t (there .rca (c .bus .rca) ∙ sym (here .rca (c .bus .rca)) ∙ f .0 .rca), there .app (c .bus .app))
 
-  -- an RCA that is right in one state from stby to dis is right in another
-  goes : (s to : State) (n : ℕ) → c .bus .state ≡ s → badRca s (c .bus .rca) ≡ eqb (c .bus .rca) 0 → badRca to (c .bus .rca) ≡ eqb (c .bus .rca) 0
-      → badApp to (c .bus .app) ≡ false → Transfer (c .settings) to n → Facts (withWritten (withState c to) n)
-  goes s to n e p q app t =
-      (stand c (f .0) to (c .bus .rca) n t (q ∙ sym p ∙ ap (λ (x : State). badRca x (c .bus .rca)) (sym e) ∙ f .0 .rca), app)
+  -- the transfer is over
+  ends : (to : State) → Selected (c .bus .state) → Selected to → openOf to ≡ Nothing → Facts (withState c to)
+  ends to here there e =
+      goes to (c .written) here there
+      (subst (λ (o : Open). Transfer (c .settings) o (c .written)) (sym e) (none-transfer (c .settings) (c .written) (f .0 .transfer .count)))
 
-  ends : (s : State) (name : Name) → c .bus .state ≡ s → badRca s (c .bus .rca) ≡ eqb (c .bus .rca) 0
-      → badRca (arrive name s) (c .bus .rca) ≡ eqb (c .bus .rca) 0 → badApp (arrive name s) (c .bus .app) ≡ false → Facts (withState c (arrive name s))
-  ends s name e p q app = goes s (arrive name s) (c .written) e p q app (arrive-transfer name s (here s e))
+  tran-facts : Selected (c .bus .state) → Facts (withState c Tran)
+  tran-facts here = ends Tran here tran-selected refl
 
   -- ---- a take
 
-  module _ (src : Source) (e : c .bus .state ≡ Data src) where
-    data-tran : Facts (withState c Tran)
-    unfolding badRca badApp
-    data-tran = ends (Data src) tran e refl refl refl
+  data-facts : Selected (c .bus .state) → (src : Source) → sourceAddress src ≤ capacity (c .settings) → Facts (withState c (Data src))
+  data-facts here src h =
+      goes (Data src) (c .written) here (data-selected src) (data-transfer (c .settings) src (c .written) h (f .0 .transfer .count))
 
-    data-data : (other : Source) → transferAddress (Data other) ≤ capacity (c .settings) → Facts (withState c (Data other))
-    unfolding badRca badApp
-    data-data other h =
-        goes (Data src) (Data other) (c .written) e refl refl refl (data-transfer (c .settings) other (c .written) h (f .0 .transfer .count))
-
-  pub take-lasting : (memory : List ℕ) (src : Source) → c .bus .state ≡ Data src → Lasting (c .settings) (takeFrom src c memory)
-  unfolding takeFrom transferAddress
-  take-lasting memory (Blocks multiple address held) e =
-      let src = Blocks multiple address held in
-      let P : Turn → Type 0 = λ t. Lasting (c .settings) t in
+  source-lasting : (memory : List ℕ) (src : Source) → Selected (c .bus .state) → sourceAddress src ≤ capacity (c .settings)
+      → Lasting c (takeSource src c memory)
+  unfolding takeSource
+  source-lasting memory (Blocks multiple address held) here near =
+      let P : Turn → Type 0 = λ t. Lasting c t in
       let top = capacity (c .settings) in
       let last = address % BLOCK + c .length in
-      let near : address ≤ top = here (Data src) e .inside in
-      let hold : Facts (withState c (Data (Blocks multiple address true))) = data-data src e (Blocks multiple address true) near in
+      let hold : Facts (withState c (Data (Blocks multiple address true))) = data-facts here (Blocks multiple address true) near in
       cond-elim P held (λ t. lasting f refl)
-      (λ t. cond-elim P (leb top address) (λ u. lasting hold refl)
-      (λ u. cond-elim P (ltb BLOCK last) (λ v. lasting hold refl)
+      (λ t. cond-elim P (outside top address) (λ u. lasting hold refl)
+      (λ u. cond-elim P (crossing (c .length) address) (λ v. lasting hold refl)
       (λ v.
       let below : address < top = leb-false top address u in
       let fits : last ≤ BLOCK = ltb-false BLOCK last v in
       let behind = Blocks true (address + c .length) false in
-      let go = cond-elim (λ (s : State). Facts (withState c s)) multiple (λ q. data-data src e behind (omega arith)) (λ q. data-tran src e) in
+      let go = cond-elim (λ (s : State). Facts (withState c s)) multiple (λ q. data-facts here behind (omega arith)) (λ q. tran-facts here) in
       lasting go refl)))
-  take-lasting memory (WriteProtect address) e = lasting (data-tran (WriteProtect address) e) refl
-  take-lasting memory SdStatus e = lasting (data-tran SdStatus e) refl
-  take-lasting memory WrittenBlocks e = lasting (data-tran WrittenBlocks e) refl
-  take-lasting memory Scr e = lasting (data-tran Scr e) refl
+  source-lasting memory (WriteProtect address) here near = lasting (tran-facts here) refl
+  source-lasting memory SdStatus here near = lasting (tran-facts here) refl
+  source-lasting memory WrittenBlocks here near = lasting (tran-facts here) refl
+  source-lasting memory Scr here near = lasting (tran-facts here) refl
+
+  take-open : (memory : List ℕ) (o : Open) → Opens o (c .bus .state) → Transfer (c .settings) o (c .written) → Lasting c (takeFrom o c memory)
+  unfolding takeFrom
+  take-open memory Nothing h t = lasting f refl
+  take-open memory (Read src) h t = source-lasting memory src h (t .inside)
+  take-open memory (Write k) h t = lasting f refl
+  take-open memory (Busy to) h t = lasting f refl
+
+  pub take-lasting : (memory : List ℕ) → Lasting c (takeFrom (openOf (c .bus .state)) c memory)
+  take-lasting memory = take-open memory (openOf (c .bus .state)) (opens (c .bus .state)) (f .0 .transfer)
 
   -- ---- a block in
 
-  module _ (k : Sink) (e : c .bus .state ≡ Rcv k) where
-    on-block : k .address % BLOCK ≡ 0
-    unfolding offBlock
-    on-block = eqb-true (k .address % BLOCK) 0 (not-false (eqb (k .address % BLOCK) 0) (here (Rcv k) e .aligned))
+  module _
+      (multiple held : Bool) (a : ℕ) (here : Selected (c .bus .state)) (near : a ≤ capacity (c .settings)) (aligned : a % BLOCK ≡ 0)
+      (most : c .written ≤ a / BLOCK)
+    where
+      rcv-facts : (m h : Bool) (at n : ℕ) → at ≤ capacity (c .settings) → at % BLOCK ≡ 0 → n ≤ at / BLOCK
+          → Facts (withWritten (withState c (Rcv (sink m at h))) n)
+      rcv-facts m h at n near on count =
+          let k = sink m at h in
+          let e : sinkAddress k ≡ at = sink-address m h at in
+          goes (Rcv k) n here (rcv-selected k) (rcv-transfer (c .settings) k n (omega arith) (rw e on) (rw e count))
 
-    rcv-tran : Facts (withState c Tran)
-    unfolding badRca badApp
-    rcv-tran = ends (Rcv k) tran e refl refl refl
+      hold : Facts (holdWrite c multiple a)
+      hold = rcv-facts multiple true a (c .written) near aligned most
 
-    hold : Facts (holdWrite c k)
-    unfolding badRca badApp transferAddress writtenMost
-    hold = goes (Rcv k) (Rcv (sink (k .multiple) (k .address) true)) (c .written) e refl refl refl
-        (rcv-transfer (c .settings) (sink (k .multiple) (k .address) true) (c .written) (here (Rcv k) e .inside) on-block (here (Rcv k) e .most))
+      -- one block more, and the address behind it
+      on : a < capacity (c .settings) → Facts (accepted c multiple a)
+      on h =
+          let n = c .written + 1 in
+          let more : n ≤ (a + BLOCK) / BLOCK = omega arith in
+          let room : n ≤ c .settings .blocks = omega arith in
+          cond-elim (λ (s : State). Facts (withState (withWritten c n) s)) multiple
+          (λ q. rcv-facts true false (a + BLOCK) n (omega arith) (omega arith) more)
+          (λ q. goes Prg n here prg-selected (none-as-busy room))
+        where
+          none-as-busy : c .written + 1 ≤ c .settings .blocks → Transfer (c .settings) (Busy Tran) (c .written + 1)
+          none-as-busy room = record { inside = omega arith; aligned = refl; count = room; most = room }
 
-    -- one block more, and the address behind it
-    on : k .address < capacity (c .settings) → Facts (stored c k)
-    unfolding badRca badApp writtenMost
-    on h =
-        let n = c .written + 1 in
-        let most : c .written ≤ k .address / BLOCK = here (Rcv k) e .most in
-        let aligned : k .address % BLOCK ≡ 0 = on-block in
-        let behind : Sink = sink true (k .address + BLOCK) false in
-        let more : Transfer (c .settings) (Rcv behind) n = rcv-transfer (c .settings) behind n (omega arith) (omega arith) (omega arith) in
-        cond-elim (λ (s : State). Facts (withState (withWritten c n) s)) (k .multiple)
-        (λ q. goes (Rcv k) (Rcv behind) n e refl refl refl more)
-        (λ q. goes (Rcv k) Prg n e refl refl refl (arrive-transfer prg (Rcv behind) more))
+      write-lasting : (packet : List ℕ) → length packet ≡ blockSize c → Lasting c (writeInto multiple a held c packet)
+      unfolding writeInto payloadOf
+      write-lasting packet size =
+          let P : Turn → Type 0 = λ t. Lasting c t in
+          let top = capacity (c .settings) in
+          cond-elim P held (λ t. lasting f refl)
+          (λ t. cond-elim P (not (packetRight packet))
+          (λ u. cond-elim (λ (d : Core). Lasting c (said d (token REJECTED))) multiple (λ q. lasting hold refl) (λ q. lasting (tran-facts here) refl))
+          (λ u. cond-elim P (outside top a) (λ v. lasting hold refl)
+          (λ v. cond-elim P (guarded (whole (c .settings)) (c .marks) a) (λ x. lasting hold refl)
+          (λ x.
+          let below : a < top = leb-false top a v in
+          record { facts = on below; settings = refl; inside = simp length-take (omega arith) }))))
 
-    pub block-lasting : (packet : List ℕ) → length packet ≡ 514 → Lasting (c .settings) (blockInto k c packet)
-    unfolding blockInto payloadOf
-    block-lasting packet size =
-        let P : Turn → Type 0 = λ t. Lasting (c .settings) t in
-        cond-elim P (k .held) (λ t. lasting f refl)
-        (λ t. cond-elim P (not (packetRight packet))
-        (λ u. cond-elim (λ (d : Core). Lasting (c .settings) (said d (token REJECTED) same)) (k .multiple) (λ q. lasting hold refl)
-        (λ q. lasting rcv-tran refl))
-        (λ u. cond-elim P (leb (capacity (c .settings)) (k .address)) (λ v. lasting hold refl)
-        (λ v. cond-elim P (guarded c (k .address)) (λ x. lasting hold refl)
-        (λ x.
-        let below : k .address < capacity (c .settings) = leb-false (capacity (c .settings)) (k .address) v in
-        let aligned : k .address % BLOCK ≡ 0 = on-block in
-        record { facts = on below; settings = refl; inside = simp length-take (omega arith) }))))
+  block-open : (packet : List ℕ) → length packet ≡ blockSize c → (o : Open) → Opens o (c .bus .state) → Transfer (c .settings) o (c .written)
+      → Lasting c (blockInto o c packet)
+  unfolding blockInto
+  block-open packet size Nothing h t = lasting f refl
+  block-open packet size (Read src) h t = lasting f refl
+  block-open packet size (Write (Single a held)) h t =
+      let aligned : a % BLOCK ≡ 0 = eqb-true (a % BLOCK) 0 (not-false (eqb (a % BLOCK) 0) (t .aligned)) in
+      write-lasting false held a h (t .inside) aligned (t .most) packet size
+  block-open packet size (Write (Multiple a held)) h t =
+      let aligned : a % BLOCK ≡ 0 = eqb-true (a % BLOCK) 0 (not-false (eqb (a % BLOCK) 0) (t .aligned)) in
+      write-lasting true held a h (t .inside) aligned (t .most) packet size
+  block-open packet size (Busy to) h t = lasting f refl
+
+  pub block-lasting : (packet : List ℕ) → length packet ≡ blockSize c → Lasting c (blockInto (openOf (c .bus .state)) c packet)
+  block-lasting packet size = block-open packet size (openOf (c .bus .state)) (opens (c .bus .state)) (f .0 .transfer)
 
   -- ---- busy over
 
-  over-to : (x to : State) → Facts (withState c x) → some x ≡ some to → Lasting (c .settings) (overFrom to c)
-  over-to x to g h =
-      let e : x ≡ to = cc in
-      lasting (subst (λ (y : State). Facts (withState c y)) e g) refl
+  over-open : (o : Open) → Opens o (c .bus .state) → Lasting c (overFrom o c)
+  unfolding overFrom
+  over-open Nothing h = lasting f refl
+  over-open (Read src) h = lasting f refl
+  over-open (Write k) h = lasting f refl
+  over-open (Busy to) (here, there, none-open) = lasting (ends to here there none-open) refl
 
-  pub over-lasting : (s to : State) → c .bus .state ≡ s → leads s ≡ some to → Lasting (c .settings) (overFrom to c)
-  unfolding leads badRca badApp
-  over-lasting Prg to e h = over-to Tran to (ends Prg tran e refl refl refl) h
-  over-lasting Dis to e h = over-to Stby to (ends Dis stby e refl refl refl) h
-  over-lasting (Data s) to e h = absurd (nowhere h)
-  over-lasting (Rcv s) to e h = absurd (nowhere h)
-  over-lasting Idle to e h = absurd (nowhere h)
-  over-lasting Ready to e h = absurd (nowhere h)
-  over-lasting Ident to e h = absurd (nowhere h)
-  over-lasting Stby to e h = absurd (nowhere h)
-  over-lasting Tran to e h = absurd (nowhere h)
-  over-lasting Ina to e h = absurd (nowhere h)
+  pub over-lasting : Lasting c (overFrom (openOf (c .bus .state)) c)
+  over-lasting = over-open (openOf (c .bus .state)) (opens (c .bus .state))

@@ -8,24 +8,26 @@ use lib.Arith.{digits-div}
 use Rattle.crc.specs.Bits.{digit, bit, bits}
 use Rattle.crc.proofs.Bits.{digit-lt, bits-low, bits-split}
 use Rattle.card_model.specs.declared.card.Kept.{Kept}
-use Rattle.card_model.specs.Status.{status, shown, readyFor}
-use Rattle.card_model.specs.Table.{Name, idle, ready, ident, stby, tran, «data», rcv, prg, dis, ina, code}
+use Rattle.card_model.specs.declared.state.State.{State}
+use Rattle.card_model.specs.declared.state.State.the-variants.{Idle, Ready, Ident, Stby, Tran, Data, Rcv, Prg, Dis, Ina}
+use Rattle.card_model.specs.State.{number, readyFor}
+use Rattle.card_model.specs.Status.{status, shown}
 
 -- the bits above 23 are the word's
 abbrev pub Free : ℕ → Type 0
 Free word = (crc : Bool) → shown crc word / 2 ^ 24 ≡ word / 2 ^ 24
 
-code-le : (s : Name) → code s ≤ 9
-code-le idle = omega arith
-code-le ready = omega arith
-code-le ident = omega arith
-code-le stby = omega arith
-code-le tran = omega arith
-code-le «data» = omega arith
-code-le rcv = omega arith
-code-le prg = omega arith
-code-le dis = omega arith
-code-le ina = omega arith
+number-le : (s : State) → number s ≤ 9
+number-le Idle = omega arith
+number-le Ready = omega arith
+number-le Ident = omega arith
+number-le Stby = omega arith
+number-le Tran = omega arith
+number-le (Data s) = omega arith
+number-le (Rcv s) = omega arith
+number-le Prg = omega arith
+number-le Dis = omega arith
+number-le Ina = omega arith
 
 free : (word high low : ℕ) → word ≡ high * 2 ^ 24 + low → low < 2 ^ 23 → Free word
 free word high low e h crc =
@@ -34,10 +36,10 @@ free word high low e h crc =
     ∙ digits-div high (omega (arith, digit-lt crc))
     ∙ sym (ap (λ (n : ℕ). n / 2 ^ 24) e ∙ digits-div high (omega arith))
 
-pub status-free : (k : Kept) (s : Name) (app : Bool) → Free (status k s app)
+pub status-free : (k : Kept) (s : State) (app : Bool) → Free (status k (number s) app)
 unfolding status
 status-free k s app =
-    free (status k s app)
+    free (status k (number s) app)
     (digit (k .«out_of_range») * 2 ^ 7
     + digit (k .«address_error») * 2 ^ 6
     + digit (k .«block_len_error») * 2 ^ 5
@@ -47,12 +49,12 @@ status-free k s app =
     (digit (k .«illegal_command») * 2 ^ 22
     + digit (k .«wp_erase_skip») * 2 ^ 15
     + digit (k .«erase_reset») * 2 ^ 13
-    + code s * 2 ^ 9
-    + digit (readyFor s) * 2 ^ 8
+    + number s * 2 ^ 9
+    + digit (readyFor (number s)) * 2 ^ 8
     + digit app * 2 ^ 5)
     (omega arith)
     (omega
-    (arith, digit-lt (k .«illegal_command»), digit-lt (k .«wp_erase_skip»), digit-lt (k .«erase_reset»), code-le s, digit-lt (readyFor s), digit-lt app))
+    (arith, digit-lt (k .«illegal_command»), digit-lt (k .«wp_erase_skip»), digit-lt (k .«erase_reset»), number-le s, digit-lt (readyFor (number s)), digit-lt app))
 
 -- a word with COM_CRC_ERROR is that bit and the word's others
 pub bits-shown : (crc : Bool) (word : ℕ) → Free word

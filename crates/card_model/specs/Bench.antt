@@ -1,5 +1,6 @@
--- The bench readings of 01, and further ones that tell near definitions apart, as one table: runs of calls from power-up
--- with what each shows, and one decoded response.
+-- The bench readings of 01, and further ones that tell near definitions apart, as one table: runs of calls with what each shows, and
+-- one decoded response.
+use mathlib.Core.Path.{_≡_}
 use mathlib.Core.Bool.{Bool, true, false, cond, _&&_, Bool·beq}
 use mathlib.Core.List.{List, [], _∷_, _++_}
 use Prim.Native.Nat.{ℕ, _+_, _/_, _%_, _^_}
@@ -7,14 +8,14 @@ use lib.Dec.{eqb}
 use lib.ListN.{take, getD, set, replicate}
 use Rattle.codec.specs.Answer.{Outcome, done, refused}
 use Rattle.codec.specs.Format.{decode}
-use Rattle.wire_response.specs.Response as Response
+use Rattle.wire_response.specs.Response as Wire
 use Rattle.wire_response.specs.Status.{currentState, readyForData}
 use Rattle.wire_packet.specs.Packet.{packet}
 use Rattle.card_model.specs.declared.settings.Settings.{Settings}
 use Rattle.card_model.specs.Settings.{capacity}
 use Rattle.card_model.specs.Soundness.{equal}
 use Rattle.card_model.specs.Data.{ACCEPTED}
-use Rattle.card_model.specs.Step.{Call, commandFrame, blockIn, takeBlock, busyOver, World, Reply, silent, sent, answered, over, step, start}
+use Rattle.card_model.specs.Step.{Call, powerUp, commandFrame, blockIn, takeBlock, busyOver, World, world, Reply, silent, sent, answered, over, step, start, unpowered}
 
 -- unprotected, CID zero
 abbrev pub sized : ℕ → ℕ → Settings
@@ -38,15 +39,15 @@ abbrev pub polled : Settings
 polled = sized 4 1
 
 unfoldable pub benchWorld : Settings → World
-benchWorld s = record { card = start s; memory = replicate (capacity s) 0 }
+benchWorld s = world (start s) (replicate (capacity s) 0)
 
 -- what the replay program prints: none, rsp or blk with bytes, ack, nak, ref with a number
 pub data Print : Type 0 where
   none ack nak : Print
-  bytes : List ℕ → Print
+  rsp blk : List ℕ → Print
   ref : ℕ → Print
 
-pub record Line : Type 0 where
+pub record Reading : Type 0 where
   pub call : Call
   pub prints : Print
 
@@ -59,79 +60,85 @@ infix 70 _shows_
 abbrev pub frame : ℕ → Call
 frame f = commandFrame (six f) (replicate 17 0)
 
-abbrev pub _shows_ : ℕ → ℕ → Line
-f shows r = record { call = frame f; prints = bytes (six r) }
+abbrev pub _shows_ : ℕ → ℕ → Reading
+f shows r = record { call = frame f; prints = rsp (six r) }
 
-abbrev pub quietly : ℕ → Line
+abbrev pub quietly : ℕ → Reading
 quietly f = record { call = frame f; prints = none }
 
-abbrev pub taking : List ℕ → Line
-taking s = record { call = takeBlock (replicate 514 0); prints = bytes s }
+abbrev pub taking : List ℕ → Reading
+taking s = record { call = takeBlock (replicate 514 0); prints = blk s }
 
-abbrev pub taking-nothing : Line
+abbrev pub taking-nothing : Reading
 taking-nothing = record { call = takeBlock (replicate 514 0); prints = none }
 
-abbrev pub writing : List ℕ → Line
+abbrev pub writing : List ℕ → Reading
 writing s = record { call = blockIn s; prints = ack }
 
 -- the same block with its first bit altered
-abbrev pub damaging : List ℕ → Line
+abbrev pub damaging : List ℕ → Reading
 damaging s = record { call = blockIn (set s 0 (getD s 0 0 + 128)); prints = nak }
 
-abbrev pub overs : Line
+abbrev pub overs : Reading
 overs = record { call = busyOver; prints = none }
 
-abbrev pub refusing : Call → ℕ → Line
+abbrev pub refusing : Call → ℕ → Reading
 refusing c k = record { call = c; prints = ref k }
 
--- a block to write
+-- a block to write, and one of zeros as it is read
 abbrev pub block : List ℕ
 block = packet (replicate 512 0x2B)
 
+abbrev pub zeros : ℕ → List ℕ
+zeros n = packet (replicate n 0)
+
+-- bytes are a block where they were taken, and a response elsewhere
+abbrev pub bytesOf : Call → List ℕ → Print
+bytesOf (takeBlock before) s = blk s
+bytesOf (commandFrame f before) s = rsp s
+bytesOf (powerUp settings) s = rsp s
+bytesOf (blockIn b) s = rsp s
+bytesOf busyOver s = rsp s
+
 -- the answer is what the line says
-unfoldable pub printed : Outcome Reply → List ℕ → Print
-printed (refused k) out = ref k
-printed (done silent) out = none
-printed (done (sent n)) out = bytes (take n out)
-printed (done (answered n)) out = cond (eqb n ACCEPTED) ack nak
-printed (done over) out = none
+unfoldable pub printed : Call → Outcome Reply → List ℕ → Print
+printed c (refused k) out = ref k
+printed c (done silent) out = none
+printed c (done (sent n)) out = bytesOf c (take n out)
+printed c (done (answered n)) out = cond (eqb n ACCEPTED) ack nak
+printed c (done over) out = none
+
+-- which word it is, and what stands behind it
+abbrev pub wordOf : Print → ℕ
+wordOf none = 0
+wordOf ack = 1
+wordOf nak = 2
+wordOf (rsp s) = 3
+wordOf (blk s) = 4
+wordOf (ref k) = 5
+
+abbrev pub fieldOf : Print → List ℕ
+fieldOf none = []
+fieldOf ack = []
+fieldOf nak = []
+fieldOf (rsp s) = s
+fieldOf (blk s) = s
+fieldOf (ref k) = k ∷ []
 
 unfoldable pub samePrint : Print → Print → Bool
-samePrint none none = true
-samePrint none ack = false
-samePrint none nak = false
-samePrint none (bytes t) = false
-samePrint none (ref k) = false
-samePrint ack none = false
-samePrint ack ack = true
-samePrint ack nak = false
-samePrint ack (bytes t) = false
-samePrint ack (ref k) = false
-samePrint nak none = false
-samePrint nak ack = false
-samePrint nak nak = true
-samePrint nak (bytes t) = false
-samePrint nak (ref k) = false
-samePrint (bytes s) none = false
-samePrint (bytes s) ack = false
-samePrint (bytes s) nak = false
-samePrint (bytes s) (bytes t) = equal s t
-samePrint (bytes s) (ref k) = false
-samePrint (ref k) none = false
-samePrint (ref k) ack = false
-samePrint (ref k) nak = false
-samePrint (ref k) (bytes t) = false
-samePrint (ref k) (ref m) = eqb k m
+samePrint p q = eqb (wordOf p) (wordOf q) && equal (fieldOf p) (fieldOf q)
 
-unfoldable pub plays : World → List Line → Bool
+unfoldable pub plays : World → List Reading → Bool
 plays w [] = true
 plays w (l ∷ ls) =
     let r = step w (l .call) in
-    samePrint (printed (r .answer) (r .out)) (l .prints) && plays (r .world) ls
+    samePrint (printed (l .call) (r .answer) (r .out)) (l .prints) && plays (r .world) ls
 
 pub data Example : Type 0 where
   -- lines from power-up on
-  on : Settings → List Line → Example
+  on : Settings → List Reading → Example
+  -- lines on any world
+  from : World → List Reading → Example
   -- an R1 with its index, and the state and readiness that its status shows
   decodes : ℕ → ℕ → ℕ → Bool → Example
 
@@ -141,12 +148,13 @@ shownBy (done vs) state ready = eqb (currentState (getD vs 0 0)) state && Bool·
 
 unfoldable pub holds : Example → Bool
 holds (on s ls) = plays (benchWorld s) ls
-holds (decodes index r state ready) = shownBy (decode (Response.r1 index) (six r)) state ready
+holds (from w ls) = plays w ls
+holds (decodes index r state ready) = shownBy (decode (Wire.r1 index) (six r)) state ready
 
 -- ---- the table
 
 -- 01's nine lines
-abbrev pub nine : List Line
+abbrev pub nine : List Reading
 nine =
     quietly 0x400000000095
     ∷ 0x48000001AA87 shows 0x08000001AA13
@@ -159,11 +167,11 @@ nine =
     ∷ 0x6900FF800085 shows 0x3F80FF8000FF ∷ []
 
 -- the CID, all zero
-abbrev pub cidLine : Line
-cidLine = record { call = frame 0x42000000004D; prints = bytes (0x3F ∷ (replicate 15 0 ++ (1 ∷ []))) }
+abbrev pub cidLine : Reading
+cidLine = record { call = frame 0x42000000004D; prints = rsp (0x3F ∷ (replicate 15 0 ++ (1 ∷ []))) }
 
 -- the card selected: 55, A41, 2, 3, 7
-abbrev pub selected : List Line → List Line
+abbrev pub selected : List Reading → List Reading
 selected rest =
     0x770000000065 shows 0x370000012083
     ∷ 0x6900FF800085 shows 0x3F80FF8000FF
@@ -176,10 +184,10 @@ examples =
     on bench nine
     ∷ decodes 17 0x110000090067 4 true
     -- a 512 read at 32,256 runs, at 32,768 is OUT_OF_RANGE, at 1 ADDRESS_ERROR; length 511 at 1 runs
-    ∷ on bench (selected (0x5100007E00DD shows 0x110000090067 ∷ []))
+    ∷ on bench (selected (0x5100007E00DD shows 0x110000090067 ∷ taking (zeros 512) ∷ []))
     ∷ on bench (selected (0x5100008000F3 shows 0x118000090051 ∷ []))
     ∷ on bench (selected (0x510000000147 shows 0x1140000900F5 ∷ []))
-    ∷ on bench (selected (0x50000001FFDD shows 0x10000009000B ∷ 0x510000000147 shows 0x110000090067 ∷ []))
+    ∷ on bench (selected (0x50000001FFDD shows 0x10000009000B ∷ 0x510000000147 shows 0x110000090067 ∷ taking (zeros 511) ∷ []))
     -- group 1 alone marked: 30 at 0 shows 2, at 16,384 shows 1
     ∷ on bench (selected
     (0x5C0000400017 shows 0x1C00000900FF
@@ -194,7 +202,7 @@ examples =
     -- R6 carries no clear-by-read bit that is kept: OUT_OF_RANGE of a take shows in the status after it
     ∷ on small (selected
     (0x520000060095 shows 0x1200000900D3
-    ∷ taking (packet (replicate 512 0))
+    ∷ taking (zeros 512)
     ∷ taking-nothing
     ∷ quietly 0x470000000083
     ∷ 0x430000000021 shows 0x03000207006B
@@ -209,7 +217,7 @@ examples =
     ∷ 0x6600000000A5 shows 0x260000090097
     ∷ overs
     ∷ 0x510000020079 shows 0x110000090067
-    ∷ taking (packet (replicate 512 0)) ∷ []))
+    ∷ taking (zeros 512) ∷ []))
     -- a write is read back, and an erase before it leaves it
     ∷ on small (selected
     (0x580000020043 shows 0x18000009005D
@@ -257,11 +265,32 @@ examples =
     ∷ 0x6600000000A5 shows 0x2608000900A7
     ∷ 0x6000000200F3 shows 0x2000000900ED
     ∷ 0x4D0001000053 shows 0x0D00002900DB ∷ []))
-    -- blocks and takes outside their states
+    -- row 1: a frame that is not 6 bytes, a block that is not 514
+    ∷ on small (refusing (commandFrame (0x40 ∷ []) (replicate 17 0)) 1 ∷ refusing (blockIn (replicate 513 0)) 1 ∷ [])
+    -- row 2: an unsound record, before row 3; and row 1 before it
+    ∷ from (world unpowered (0 ∷ []))
+    (refusing (frame 0x400000000095) 2
+    ∷ refusing (blockIn block) 2
+    ∷ refusing (takeBlock (replicate 514 0)) 2
+    ∷ refusing busyOver 2
+    ∷ refusing (commandFrame [] []) 1 ∷ [])
+    -- row 3: memory of another size, at a power-up too
+    ∷ from (world (start small) (replicate 2047 0))
+    (refusing (frame 0x400000000095) 3
+    ∷ refusing (takeBlock []) 3
+    ∷ refusing (blockIn block) 3
+    ∷ refusing busyOver 3
+    ∷ refusing (powerUp small) 3 ∷ [])
+    -- row 4: a buffer under 17 bytes, and one under 514
+    ∷ on small (refusing (commandFrame (six 0x400000000095) (replicate 16 0)) 4 ∷ refusing (takeBlock (replicate 513 0)) 4 ∷ [])
+    -- row 5: blocks and takes outside their states
     ∷ on small (selected
     (refusing (takeBlock (replicate 514 0)) 5
     ∷ refusing (blockIn block) 5
     ∷ refusing busyOver 5 ∷ []))
+    -- row 6: 3 blocks, which no pair gives, and 16 polls; and row 3 before it
+    ∷ from (world unpowered (replicate 1536 0)) (refusing (powerUp (sized 3 0)) 6 ∷ refusing (powerUp (sized 2 0)) 3 ∷ [])
+    ∷ on small (refusing (powerUp (sized 4 16)) 6 ∷ record { call = powerUp small; prints = none } ∷ [])
     -- an illegal command clears the application mark, so A41 is not in the table
     ∷ on
     small
@@ -285,3 +314,6 @@ examples =
 unfoldable pub every : List Example → Bool
 every [] = true
 every (x ∷ xs) = holds x && every xs
+
+abbrev pub Readings : Type 0
+Readings = every examples ≡ true

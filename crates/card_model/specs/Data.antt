@@ -1,73 +1,77 @@
--- Data blocks (01, "Take", "Block in", "Busy over").
-use mathlib.Core.Bool.{Bool, true, false, cond, not, _&&_}
+-- Data blocks (01, "Take", "Block in", "Busy over"), by what the state has open.
+use mathlib.Core.Bool.{Bool, true, false, cond, not}
 use mathlib.Core.List.{List, [], _∷_}
-use Prim.Native.Nat.{ℕ, zero, suc, _+_, _%_}
-use lib.Dec.{leb, ltb}
-use lib.ListN.{length, take, drop, replicate}
+use Prim.Native.Nat.{ℕ, _+_}
+use lib.ListN.{take, drop, replicate}
 use Rattle.crc.specs.Bits.{bits, bytes}
 use Rattle.wire_packet.specs.Packet.{packetRight, payloadOf}
-use Rattle.card_model.specs.declared.card.Source.{Source}
-use Rattle.card_model.specs.declared.card.Source.the-variants.{Blocks, WriteProtect, SdStatus, WrittenBlocks, Scr}
-use Rattle.card_model.specs.declared.card.Sink.{Sink}
-use Rattle.card_model.specs.declared.card.State.{State}
-use Rattle.card_model.specs.declared.card.State.the-variants.{Tran, Data, Rcv, Prg}
+use Rattle.card_model.specs.declared.state.Source.{Source}
+use Rattle.card_model.specs.declared.state.Source.the-variants.{Blocks, WriteProtect, SdStatus, WrittenBlocks, Scr}
+use Rattle.card_model.specs.declared.state.Sink.{Sink}
+use Rattle.card_model.specs.declared.state.Sink.the-variants.{Single, Multiple}
+use Rattle.card_model.specs.declared.state.State.{State}
+use Rattle.card_model.specs.declared.state.State.the-variants.{Tran, Data, Rcv, Prg}
+use Rattle.card_model.specs.declared.state.Open as Open
+use Rattle.card_model.specs.declared.state.Open.{Open}
+use Rattle.card_model.specs.declared.state.Open.the-variants.{Read, Write, Busy}
 use Rattle.card_model.specs.declared.card.Core.{Core}
-use Rattle.card_model.specs.declared.card.Kept.{Kept}
+use Rattle.card_model.specs.declared.done.Effect.{Effect}
+use Rattle.card_model.specs.declared.done.Effect.the-variants.{Nothing, Store}
+use Rattle.card_model.specs.declared.done.Flag.the-variants.{Keep}
 use Rattle.card_model.specs.Settings.{BLOCK, capacity, groups, scrBytes}
 use Rattle.card_model.specs.Record.{withState, withWritten}
+use Rattle.card_model.specs.State.{sink}
 use Rattle.card_model.specs.Status.{OUT-OF-RANGE, ADDRESS-ERROR, WP-VIOLATION}
-use Rattle.card_model.specs.Checks.{marked, groupOf, guarded}
-use Rattle.card_model.specs.Execute.{Effect, same, store, raise}
-use Rattle.card_model.specs.Frame.{keep, Message, block, token, finished, Turn, quiet}
+use Rattle.card_model.specs.Protect.{groupOf, whole, guarded, markBits}
+use Rattle.card_model.specs.Checks.{outside, crossing}
+use Rattle.card_model.specs.Execute.{raise}
+use Rattle.card_model.specs.Frame.{Message, block, token, finished, Turn, quiet}
 
 -- a call of data leaves COM_CRC_ERROR
-abbrev pub said : Core → Message → Effect → Turn
-said c m e = record { core = c; flag = keep; message = m; effect = e }
+abbrev pub said : Core → Message → Turn
+said c m = record { core = c; flag = Keep; message = m; effect = Nothing; payload = [] }
 
 -- ---- take a block
-
--- 30: the lowest bit is the addressed group; groups past the end read 0
-unfoldable pub markBits : Core → ℕ → ℕ → List Bool
-markBits c group zero = []
-markBits c group (suc k) = (ltb (group + k) (groups (c .settings)) && marked (c .marks) (group + k)) ∷ markBits c group k
-
-abbrev pub markBytes : Core → ℕ → List ℕ
-markBytes c address = bytes 4 (markBits c (groupOf address) 32)
 
 -- a number of 32 bits, high byte first
 abbrev pub word32 : ℕ → List ℕ
 word32 n = bytes 4 (bits 32 n)
 
+-- 30: the lowest bit is the addressed group
+abbrev pub markBytes : Core → ℕ → List ℕ
+markBytes c address = bytes 4 (markBits (groups (c .settings)) (c .marks) (groupOf address) 32)
+
 -- a bit, and the transfer is held: it and later takes are silent
-abbrev pub holdRead : Core → Bool → ℕ → Kept → Turn
-holdRead c multiple address k = quiet (withState (raise c k) (Data (Blocks multiple address true))) keep
+abbrev pub holdRead : Core → Bool → ℕ → ℕ → Turn
+holdRead c multiple address bit = quiet (withState (raise c bit) (Data (Blocks multiple address true))) Keep
 
 -- the memory block; 18 goes on behind it, 17 returns to tran
 abbrev pub readBlock : Core → List ℕ → Bool → ℕ → Turn
 readBlock c memory multiple address =
-    said (withState c (cond multiple (Data (Blocks true (address + c .length) false)) Tran)) (block (take (c .length) (drop address memory))) same
+    said (withState c (cond multiple (Data (Blocks true (address + c .length) false)) Tran)) (block (take (c .length) (drop address memory)))
 
-unfoldable pub takeFrom : Source → Core → List ℕ → Turn
-takeFrom (Blocks multiple address held) c memory =
-    cond held (quiet c keep)
-    (cond (leb (capacity (c .settings)) address) (holdRead c multiple address OUT-OF-RANGE)
-    (cond (ltb BLOCK (address % BLOCK + c .length)) (holdRead c multiple address ADDRESS-ERROR) (readBlock c memory multiple address)))
-takeFrom (WriteProtect address) c memory = said (withState c Tran) (block (markBytes c address)) same
-takeFrom SdStatus c memory = said (withState c Tran) (block (replicate 64 0)) same
-takeFrom WrittenBlocks c memory = said (withState c Tran) (block (word32 (c .written))) same
-takeFrom Scr c memory = said (withState c Tran) (block scrBytes) same
+-- a block of its own, and back to tran
+abbrev pub single : Core → List ℕ → Turn
+single c payload = said (withState c Tran) (block payload)
+
+unfoldable pub takeSource : Source → Core → List ℕ → Turn
+takeSource (Blocks multiple address held) c memory =
+    cond held (quiet c Keep)
+    (cond (outside (capacity (c .settings)) address) (holdRead c multiple address OUT-OF-RANGE)
+    (cond (crossing (c .length) address) (holdRead c multiple address ADDRESS-ERROR) (readBlock c memory multiple address)))
+takeSource (WriteProtect address) c memory = single c (markBytes c address)
+takeSource SdStatus c memory = single c (replicate 64 0)
+takeSource WrittenBlocks c memory = single c (word32 (c .written))
+takeSource Scr c memory = single c scrBytes
+
+-- where no read is open row 5 has refused the call
+unfoldable pub takeFrom : Open → Core → List ℕ → Turn
+takeFrom Open.Nothing c memory = quiet c Keep
+takeFrom (Read s) c memory = takeSource s c memory
+takeFrom (Write s) c memory = quiet c Keep
+takeFrom (Busy s) c memory = quiet c Keep
 
 -- ---- block in
-
-abbrev pub sink : Bool → ℕ → Bool → Sink
-sink multiple address held = record { multiple = multiple; address = address; held = held }
-
-abbrev pub holdWrite : Core → Sink → Core
-holdWrite c s = withState c (Rcv (sink (s .multiple) (s .address) true))
-
--- 24 goes to prg, 25 on to the next block
-abbrev pub stored : Core → Sink → Core
-stored c s = withState (withWritten c (c .written + 1)) (cond (s .multiple) (Rcv (sink true (s .address + BLOCK) false)) Prg)
 
 -- 010 and 101
 abbrev pub ACCEPTED : ℕ
@@ -76,15 +80,45 @@ ACCEPTED = 2
 abbrev pub REJECTED : ℕ
 REJECTED = 5
 
-unfoldable pub blockInto : Sink → Core → List ℕ → Turn
-blockInto s c packet =
-    cond (s .held) (quiet c keep)
-    (cond (not (packetRight packet)) (said (cond (s .multiple) (holdWrite c s) (withState c Tran)) (token REJECTED) same)
-    (cond (leb (capacity (c .settings)) (s .address)) (quiet (holdWrite (raise c OUT-OF-RANGE) s) keep)
-    (cond (guarded c (s .address)) (quiet (holdWrite (raise c WP-VIOLATION) s) keep)
-    (said (stored c s) (token ACCEPTED) (store (s .address) (payloadOf packet))))))
+abbrev pub holdWrite : Core → Bool → ℕ → Core
+holdWrite c multiple address = withState c (Rcv (sink multiple address true))
+
+-- after a wrong check 25 is held, and 24 returns to tran
+abbrev pub rejected : Core → Bool → ℕ → Core
+rejected c multiple address = cond multiple (holdWrite c multiple address) (withState c Tran)
+
+-- 24 goes to prg, 25 on to the next block
+abbrev pub accepted : Core → Bool → ℕ → Core
+accepted c multiple address =
+    withState (withWritten c (c .written + 1)) (cond multiple (Rcv (sink true (address + BLOCK) false)) Prg)
+
+-- stored at once
+abbrev pub storeBlock : Core → Bool → ℕ → List ℕ → Turn
+storeBlock c multiple address packet =
+    record { core = accepted c multiple address; flag = Keep; message = token ACCEPTED; effect = Store address; payload = payloadOf packet }
+
+unfoldable pub writeInto : Bool → ℕ → Bool → Core → List ℕ → Turn
+writeInto multiple address held c packet =
+    cond held (quiet c Keep)
+    (cond (not (packetRight packet)) (said (rejected c multiple address) (token REJECTED))
+    (cond (outside (capacity (c .settings)) address) (quiet (holdWrite (raise c OUT-OF-RANGE) multiple address) Keep)
+    (cond (guarded (whole (c .settings)) (c .marks) address) (quiet (holdWrite (raise c WP-VIOLATION) multiple address) Keep)
+    (storeBlock c multiple address packet))))
+
+abbrev pub writeSink : Sink → Core → List ℕ → Turn
+writeSink (Single address held) c packet = writeInto false address held c packet
+writeSink (Multiple address held) c packet = writeInto true address held c packet
+
+unfoldable pub blockInto : Open → Core → List ℕ → Turn
+blockInto Open.Nothing c packet = quiet c Keep
+blockInto (Read s) c packet = quiet c Keep
+blockInto (Write s) c packet = writeSink s c packet
+blockInto (Busy s) c packet = quiet c Keep
 
 -- ---- busy over
 
-abbrev pub overFrom : State → Core → Turn
-overFrom to c = said (withState c to) finished same
+unfoldable pub overFrom : Open → Core → Turn
+overFrom Open.Nothing c = quiet c Keep
+overFrom (Read s) c = quiet c Keep
+overFrom (Write s) c = quiet c Keep
+overFrom (Busy next) c = said (withState c next) finished

@@ -1,67 +1,50 @@
--- What each command does when it runs (01, "Transitions", "Start checks", "Erase").
-use mathlib.Core.Bool.{Bool, true, false, cond, not, _&&_, _||_}
+-- What each command does when it runs (01, "Transitions", "Start checks", "Erase"). No bus mode is mentioned.
+use mathlib.Core.Bool.{Bool, true, false, cond, _&&_, _||_}
 use mathlib.Core.List.{List}
 use mathlib.Core.Option.{none, some}
-use Prim.Native.Nat.{ℕ, zero, suc, _+_, _-_, _*_, _/_, _%_, _^_}
+use Prim.Native.Nat.{ℕ, _+_, _-_, _/_, _%_, _^_}
 use lib.Dec.{eqb, leb, ltb}
-use Rattle.card_model.specs.declared.card.Source.{Source}
-use Rattle.card_model.specs.declared.card.Source.the-variants.{Blocks, WriteProtect, WrittenBlocks}
-use Rattle.card_model.specs.declared.card.State.{State}
-use Rattle.card_model.specs.declared.card.State.the-variants.{Idle, Ready, Tran, Data, Rcv, Ina}
-use Rattle.card_model.specs.declared.card.Mark.the-variants.{Unset, At}
-use Rattle.card_model.specs.declared.card.Kept.{Kept}
+use Rattle.card_model.specs.declared.state.Source.{Source}
+use Rattle.card_model.specs.declared.state.Source.the-variants.{Blocks, WriteProtect, WrittenBlocks}
+use Rattle.card_model.specs.declared.state.State.{State}
+use Rattle.card_model.specs.declared.state.State.the-variants.{Idle, Ready, Data, Rcv, Ina}
+use Rattle.card_model.specs.declared.card.EraseMark.the-variants.{Unset, At}
 use Rattle.card_model.specs.declared.card.Core.{Core}
 use Rattle.card_model.specs.declared.command.Command.{Command}
-use Rattle.card_model.specs.declared.command.Command.the-variants.{GoIdleState, AllSendCid, SendRelativeAddr, SelectCard, DeselectCard, SendIfCond, SendCsd, SendCid, StopTransmission, SendStatus, GoInactiveState, SetBlocklen, ReadSingleBlock, ReadMultipleBlock, WriteBlock, WriteMultipleBlock, SetWriteProt, ClrWriteProt, SendWriteProt, EraseWrBlkStart, EraseWrBlkEnd, Erase, AppCmd, SdStatus, SendNumWrBlocks, SetWrBlkEraseCount, SdSendOpCond, SetClrCardDetect, SendScr, Unknown}
-use Rattle.card_model.specs.Settings.{BLOCK, cidContent, csdContent, ocrOf}
-use Rattle.card_model.specs.Record.{withKept, withErase, withLength, withWritten, withMarks, withState, withRca, withPolls, noErase, isSet, address}
-use Rattle.card_model.specs.Status.{noBits, join, BLOCK-LEN-ERROR, ERASE-SEQ-ERROR, ERASE-PARAM, WP-ERASE-SKIP}
-use Rattle.card_model.specs.Table.{after}
-use Rattle.card_model.specs.Checks.{Check, firstFailure, addressChecks, readChecks, writeChecks, guarded, mark, groupOf}
+use Rattle.card_model.specs.declared.command.Command.the-variants.{GoIdleState, AllSendCid, SendRelativeAddr, SelectCard, DeselectCard, SendIfCond, SendCsd, SendCid, StopTransmission, SendStatus, AppCmd, GoInactiveState, SetBlocklen, ReadSingleBlock, ReadMultipleBlock, SendWriteProt, WriteBlock, WriteMultipleBlock, SetWriteProt, ClrWriteProt, Erase, EraseWrBlkStart, EraseWrBlkEnd, SdStatus, SendNumWrBlocks, SendScr, SetWrBlkEraseCount, SetClrCardDetect, SdSendOpCond, Unknown}
+use Rattle.card_model.specs.declared.done.Response.{Response}
+use Rattle.card_model.specs.declared.done.Response.the-variants.{Nothing, R1, R6, Cid, Csd, R3, R7}
+use Rattle.card_model.specs.declared.done.Effect as Effect
+use Rattle.card_model.specs.declared.done.Effect.{Effect}
+use Rattle.card_model.specs.declared.done.Effect.the-variants.{Sweep, Protect}
+use Rattle.card_model.specs.declared.done.Done.{Done}
+use Rattle.card_model.specs.Settings.{BLOCK, capacity, addressOf, ocrOf}
+use Rattle.card_model.specs.Record.{withKept, withErase, withLength, withWritten, withState, withRca, withPolls, noErase, isSet, address}
+use Rattle.card_model.specs.State.{sink}
+use Rattle.card_model.specs.Status.{noBits, only, join, BLOCK-LEN-ERROR, ERASE-SEQ-ERROR, ERASE-PARAM, WP-ERASE-SKIP, ERASE-RESET}
+use Rattle.card_model.specs.Table.{row, after}
+use Rattle.card_model.specs.Protect.{whole, groupOf, guarded, anyGuarded}
+use Rattle.card_model.specs.Checks.{Check, firstFailure, addressChecks, readChecks, writeChecks}
 
--- the response of a command
-pub data Response : Type 0 where
-  nothing : Response
-  -- R1 and R6 show the status, which the frame layer adds
-  r1 : Response
-  r6 : Response
-  -- R2 with a register's content, R3 with the OCR, R7 with voltage and pattern
-  r2 : List ℕ → Response
-  r3 : ℕ → Response
-  r7 : ℕ → ℕ → Response
-
--- what a call does to memory
-pub data Effect : Type 0 where
-  -- nothing
-  same : Effect
-  -- a block of bytes is stored at an address
-  store : ℕ → List ℕ → Effect
-  -- the blocks from one number through another are zeroed, but for the protected ones
-  sweep : ℕ → ℕ → Effect
-
-pub record Done : Type 0 where
-  -- the record afterwards; its kept bits are those held before and the command's own
-  pub core : Core
-  pub response : Response
-  pub effect : Effect
-
+-- a command that leaves memory and protection marks as they are
 abbrev pub ran : Core → Response → Done
-ran c r = record { core = c; response = r; effect = same }
+ran c r = record { core = c; response = r; effect = Effect.Nothing }
 
-abbrev pub raise : Core → Kept → Core
-raise c k = withKept c (join (c .kept) k)
+-- the record with a status bit set, by its number
+abbrev pub raise : Core → ℕ → Core
+raise c n = withKept c (join (c .kept) (only n))
 
 -- a plain move, with no transfer of its own
 abbrev pub moved : Command → Core → Core
-moved cmd c = withState c (after cmd (c .bus .state) (c .bus .state))
+moved k c = withState c (after k (c .bus .state) (c .bus .state))
 
 -- a move that opens a transfer
-abbrev pub opened : Command → Core → State → Core
-opened cmd c t = withState c (after cmd (c .bus .state) t)
+abbrev pub opening : Command → Core → State → Core
+opening k c t = withState c (after k (c .bus .state) t)
 
 -- a start check that fails sets its bit, shown in that command's R1, and the card stays in tran (house)
 abbrev pub checked : Core → List Check → Done → Done
-checked c checks d = elim (firstFailure checks) [ none ↦ d | some k ↦ ran (raise c k) r1 ]
+checked c checks d = elim (firstFailure checks) [ none ↦ d | some n ↦ ran (raise c n) R1 ]
 
 -- ---- command 0, and the start of a power-up
 
@@ -77,15 +60,17 @@ reset c = record {
   marks = c .marks;
 }
 
--- ---- addresses
+-- ---- identification
 
 -- one more than the last published; FFFFh is followed by 0001h
 abbrev pub nextRca : ℕ → ℕ
 nextRca last = cond (eqb last 0xFFFF) 1 (last + 1)
 
--- ---- A41
+-- 8: voltage field 1, else silent
+abbrev pub sendIfCond : Core → ℕ → Done
+sendIfCond c argument = ran c (cond (eqb (argument / 2 ^ 8 % 2 ^ 4) 1) (R7 1 (argument % 2 ^ 8)) Nothing)
 
--- bits 23..0; those that share a bit with FF8000h
+-- A41: bits 23..0 of the argument; and those that share a bit with FF8000h
 abbrev pub window : ℕ → ℕ
 window argument = argument % 2 ^ 24
 
@@ -94,92 +79,105 @@ fitting argument = window argument / 2 ^ 15
 
 unfoldable pub sendOpCond : Core → ℕ → Done
 sendOpCond c argument =
-    cond (eqb (window argument) 0) (ran c (r3 (ocrOf (eqb (c .bus .polls) 0))))
-    (cond (eqb (fitting argument) 0) (ran (withState c Ina) nothing)
-    (cond (eqb (c .bus .polls) 0) (ran (withState c Ready) (r3 (ocrOf true)))
-    (ran (withPolls c (c .bus .polls - 1)) (r3 (ocrOf false)))))
+    cond (eqb (window argument) 0) (ran c (R3 (ocrOf (eqb (c .bus .polls) 0))))
+    (cond (eqb (fitting argument) 0) (ran (withState c Ina) Nothing)
+    (cond (eqb (c .bus .polls) 0) (ran (withState c Ready) (R3 (ocrOf true)))
+    (ran (withPolls c (c .bus .polls - 1)) (R3 (ocrOf false)))))
+
+-- ---- transfers
+
+-- 16: 1..512, of the whole argument
+abbrev pub setBlocklen : Core → ℕ → Done
+setBlocklen c argument = ran (cond (leb 1 argument && leb argument BLOCK) (withLength c argument) (raise c BLOCK-LEN-ERROR)) R1
+
+-- 17 and 18
+abbrev pub readBlocks : Command → Core → Bool → ℕ → Done
+readBlocks k c multiple a = checked c (readChecks (capacity (c .settings)) (c .length) a) (ran (opening k c (Data (Blocks multiple a false))) R1)
+
+-- 24 and 25: A22's count starts anew where a write command reaches rcv
+abbrev pub writeBlocks : Command → Core → Bool → ℕ → Done
+writeBlocks k c multiple a = checked c (writeChecks (capacity (c .settings)) (c .length) (guarded (whole (c .settings)) (c .marks) a) a) (ran (withWritten (opening k c (Rcv (sink multiple a false))) 0) R1)
+
+-- 28 sets the mark of a group, 29 clears it
+abbrev pub setMark : Command → Core → Bool → ℕ → Done
+setMark k c value a = checked c (addressChecks (capacity (c .settings)) a) (record { core = moved k c; response = R1; effect = Protect (groupOf a) value })
 
 -- ---- erase
 
--- ERASE_RESET: any other command that runs, but 0, clears pending erase marks
+abbrev pub dropErase : Core → Core
+dropErase c = withErase c noErase
+
+-- some erase address is marked
 abbrev pub pending : Core → Bool
 pending c = isSet (c .erase .first) || isSet (c .erase .second)
 
-abbrev pub dropErase : Core → Kept → Core
-dropErase c k = withErase (raise c k) noErase
+-- any other command that runs, but 0, clears pending erase marks with ERASE_RESET
+unfoldable pub settled : Command → Core → Core
+settled k c = cond (row k .keepsErase) c (cond (pending c) (dropErase (raise c ERASE-RESET)) c)
 
+-- 32; a repeated one drops the second
 unfoldable pub eraseStart : Core → ℕ → Done
-eraseStart c a = checked c (addressChecks c a) (ran (withErase c (record { first = At a; second = Unset })) r1)
+eraseStart c a = checked c (addressChecks (capacity (c .settings)) a) (ran (withErase c (record { first = At a; second = Unset })) R1)
 
+-- 33, judged before its address: without 32 it is ERASE_SEQ_ERROR
 unfoldable pub eraseEnd : Core → ℕ → Done
 eraseEnd c a =
     cond (isSet (c .erase .first))
-    (checked c (addressChecks c a) (ran (withErase c (record { first = c .erase .first; second = At a })) r1))
-    (ran (dropErase c ERASE-SEQ-ERROR) r1)
+    (checked c (addressChecks (capacity (c .settings)) a) (ran (withErase c (record { first = c .erase .first; second = At a })) R1))
+    (ran (dropErase (raise c ERASE-SEQ-ERROR)) R1)
 
--- some block from number b on, of k, is protected
-unfoldable pub anyGuarded : Core → ℕ → ℕ → Bool
-anyGuarded c b zero = false
-anyGuarded c b (suc k) = guarded c (b * BLOCK) || anyGuarded c (b + 1) k
+-- a bit for protected blocks that are skipped
+unfoldable pub skipped : Core → ℕ → ℕ → Core
+skipped c first count = cond (anyGuarded (whole (c .settings)) (c .marks) first count) (raise c WP-ERASE-SKIP) c
 
-unfoldable pub sweepBits : Core → ℕ → ℕ → Kept
-sweepBits c first last = cond (anyGuarded c first (last + 1 - first)) WP-ERASE-SKIP noBits
+-- every block from that of the first address through that of the second
+abbrev pub erased : Core → ℕ → ℕ → Done
+erased c from to =
+    let first = from / BLOCK in
+    let count = to / BLOCK + 1 - first in
+    record { core = moved Erase (dropErase (skipped c first count)); response = R1; effect = Sweep first count }
 
+-- 38 without both is ERASE_SEQ_ERROR; a second address below the first ERASE_PARAM; both stay in tran
 unfoldable pub erase : Core → Done
 erase c =
-    let first = address (c .erase .first) in
-    let second = address (c .erase .second) in
     cond (isSet (c .erase .first) && isSet (c .erase .second))
-    (cond (ltb second first) (ran (dropErase c ERASE-PARAM) r1)
-    (record {
-      core = moved Erase (dropErase c (sweepBits c (first / BLOCK) (second / BLOCK)));
-      response = r1;
-      effect = sweep (first / BLOCK) (second / BLOCK);
-    }))
-    (ran (dropErase c ERASE-SEQ-ERROR) r1)
+    (cond (ltb (address (c .erase .second)) (address (c .erase .first))) (ran (dropErase (raise c ERASE-PARAM)) R1)
+    (erased c (address (c .erase .first)) (address (c .erase .second))))
+    (ran (dropErase (raise c ERASE-SEQ-ERROR)) R1)
 
--- ---- the commands
+-- ---- the commands: by the argument, and by the byte address a that it means
 
--- 8: voltage field 1, else silent
-abbrev pub sendIfCond : Core → ℕ → Done
-sendIfCond c argument = ran c (cond (eqb (argument / 2 ^ 8 % 2 ^ 4) 1) (r7 1 (argument % 2 ^ 8)) nothing)
+unfoldable pub runAt : Command → Core → ℕ → ℕ → Done
+runAt GoIdleState c argument a = ran (reset c) Nothing
+runAt AllSendCid c argument a = ran (moved AllSendCid c) Cid
+runAt SendRelativeAddr c argument a = ran (moved SendRelativeAddr (withRca c (nextRca (c .bus .published)))) R6
+runAt SelectCard c argument a = ran (moved SelectCard c) R1
+runAt DeselectCard c argument a = ran (moved DeselectCard c) Nothing
+runAt SendIfCond c argument a = sendIfCond c argument
+runAt SendCsd c argument a = ran c Csd
+runAt SendCid c argument a = ran c Cid
+runAt StopTransmission c argument a = ran (moved StopTransmission c) R1
+runAt SendStatus c argument a = ran c R1
+runAt AppCmd c argument a = ran c R1
+runAt GoInactiveState c argument a = ran (moved GoInactiveState c) Nothing
+runAt SetBlocklen c argument a = setBlocklen c argument
+runAt ReadSingleBlock c argument a = readBlocks ReadSingleBlock c false a
+runAt ReadMultipleBlock c argument a = readBlocks ReadMultipleBlock c true a
+runAt SendWriteProt c argument a = checked c (addressChecks (capacity (c .settings)) a) (ran (opening SendWriteProt c (Data (WriteProtect a))) R1)
+runAt WriteBlock c argument a = writeBlocks WriteBlock c false a
+runAt WriteMultipleBlock c argument a = writeBlocks WriteMultipleBlock c true a
+runAt SetWriteProt c argument a = setMark SetWriteProt c true a
+runAt ClrWriteProt c argument a = setMark ClrWriteProt c false a
+runAt Erase c argument a = erase c
+runAt EraseWrBlkStart c argument a = eraseStart c a
+runAt EraseWrBlkEnd c argument a = eraseEnd c a
+runAt SdStatus c argument a = ran (opening SdStatus c (Data Source.SdStatus)) R1
+runAt SendNumWrBlocks c argument a = ran (opening SendNumWrBlocks c (Data WrittenBlocks)) R1
+runAt SendScr c argument a = ran (opening SendScr c (Data Source.Scr)) R1
+runAt SetWrBlkEraseCount c argument a = ran c R1
+runAt SetClrCardDetect c argument a = ran c R1
+runAt SdSendOpCond c argument a = sendOpCond c argument
+runAt Unknown c argument a = ran c Nothing
 
--- 16: 1..512
-abbrev pub setBlocklen : Core → ℕ → Done
-setBlocklen c argument = ran (cond (leb 1 argument && leb argument BLOCK) (withLength c argument) (raise c BLOCK-LEN-ERROR)) r1
-
-unfoldable pub run : Command → Core → ℕ → Done
-run GoIdleState c a = ran (reset c) nothing
-run AllSendCid c a = ran (moved AllSendCid c) (r2 (cidContent (c .settings)))
-run SendRelativeAddr c a = ran (moved SendRelativeAddr (withRca c (nextRca (c .bus .published)))) r6
-run SelectCard c a = ran (moved SelectCard c) r1
-run DeselectCard c a = ran (moved DeselectCard c) nothing
-run SendIfCond c a = sendIfCond c a
-run SendCsd c a = ran c (r2 (csdContent (c .csd)))
-run SendCid c a = ran c (r2 (cidContent (c .settings)))
-run StopTransmission c a = ran (moved StopTransmission c) r1
-run SendStatus c a = ran c r1
-run GoInactiveState c a = ran (moved GoInactiveState c) nothing
-run SetBlocklen c a = setBlocklen c a
-run ReadSingleBlock c a = checked c (readChecks c a) (ran (opened ReadSingleBlock c (Data (Blocks false a false))) r1)
-run ReadMultipleBlock c a = checked c (readChecks c a) (ran (opened ReadMultipleBlock c (Data (Blocks true a false))) r1)
-run WriteBlock c a =
-    checked c (writeChecks c a)
-    (ran (withWritten (opened WriteBlock c (Rcv (record { multiple = false; address = a; held = false }))) 0) r1)
-run WriteMultipleBlock c a =
-    checked c (writeChecks c a)
-    (ran (withWritten (opened WriteMultipleBlock c (Rcv (record { multiple = true; address = a; held = false }))) 0) r1)
-run SetWriteProt c a = checked c (addressChecks c a) (ran (withMarks (moved SetWriteProt c) (mark true (c .marks) (groupOf a))) r1)
-run ClrWriteProt c a = checked c (addressChecks c a) (ran (withMarks (moved ClrWriteProt c) (mark false (c .marks) (groupOf a))) r1)
-run SendWriteProt c a = checked c (addressChecks c a) (ran (opened SendWriteProt c (Data (WriteProtect a))) r1)
-run EraseWrBlkStart c a = eraseStart c a
-run EraseWrBlkEnd c a = eraseEnd c a
-run Erase c a = erase c
-run AppCmd c a = ran c r1
-run SdStatus c a = ran (opened SdStatus c (Data Source.SdStatus)) r1
-run SendNumWrBlocks c a = ran (opened SendNumWrBlocks c (Data WrittenBlocks)) r1
-run SetWrBlkEraseCount c a = ran c r1
-run SdSendOpCond c a = sendOpCond c a
-run SetClrCardDetect c a = ran c r1
-run SendScr c a = ran (opened SendScr c (Data Source.Scr)) r1
-run Unknown c a = ran c nothing
+abbrev pub run : Command → Core → ℕ → Done
+run k c argument = runAt k c argument (addressOf (c .settings) argument)

@@ -1,32 +1,49 @@
--- The frame rules (01, "Frames"), in order, and what a command that runs shows and clears.
-use mathlib.Core.Bool.{Bool, true, false, cond, not, _&&_, _||_}
+-- The frame rules (01, "Frames"), in order, in two parts: which command a frame asks for and what it does, in either bus mode; and
+-- what silence, response and error show in SD mode.
+use mathlib.Core.Bool.{Bool, true, false, cond}
 use mathlib.Core.List.{List, [], _∷_}
-use Prim.Native.Nat.{ℕ, _/_, _^_}
+use Prim.Native.Nat.{ℕ}
 use lib.Dec.{eqb}
-use lib.ListN.{getD}
-use Rattle.crc.specs.Bits.{bitsOf}
-use Rattle.codec.specs.Layout.{read}
 use Rattle.codec.specs.Format.{image}
-use Rattle.wire_frame.specs.Command.{command, frameCheck}
-use Rattle.wire_response.specs.Response as Response
+use Rattle.wire_frame.specs.Command.{frameCheck}
 use Rattle.wire_frame.specs.declared.command.FrameCheck.{FrameCheck}
 use Rattle.wire_frame.specs.declared.command.FrameCheck.the-variants.{Good, Size, Start, Check}
-use Rattle.card_model.specs.declared.card.State.{State}
-use Rattle.card_model.specs.declared.card.State.the-variants.{Ina}
+use Rattle.wire_response.specs.Response as Wire
 use Rattle.card_model.specs.declared.card.Core.{Core}
 use Rattle.card_model.specs.declared.command.Command.{Command}
-use Rattle.card_model.specs.declared.command.Command.the-variants.{GoIdleState, AllSendCid, SendRelativeAddr, SelectCard, DeselectCard, SendIfCond, SendCsd, SendCid, StopTransmission, SendStatus, GoInactiveState, SetBlocklen, ReadSingleBlock, ReadMultipleBlock, WriteBlock, WriteMultipleBlock, SetWriteProt, ClrWriteProt, SendWriteProt, EraseWrBlkStart, EraseWrBlkEnd, Erase, AppCmd, SdStatus, SendNumWrBlocks, SetWrBlkEraseCount, SdSendOpCond, SetClrCardDetect, SendScr, Unknown}
+use Rattle.card_model.specs.declared.done.Response as Response
+use Rattle.card_model.specs.declared.done.Response.{Response}
+use Rattle.card_model.specs.declared.done.Response.the-variants.{R1, R6, Cid, Csd, R3, R7}
+use Rattle.card_model.specs.declared.done.Effect as Effect
+use Rattle.card_model.specs.declared.done.Effect.{Effect}
+use Rattle.card_model.specs.declared.done.Done.{Done}
+use Rattle.card_model.specs.declared.done.Verdict.{Verdict}
+use Rattle.card_model.specs.declared.done.Verdict.the-variants.{NotAllowed, OtherCard, Ran}
+use Rattle.card_model.specs.declared.done.Judged.{Judged}
+use Rattle.card_model.specs.declared.done.Flag.{Flag}
+use Rattle.card_model.specs.declared.done.Flag.the-variants.{Keep, Set, Clear}
+use Rattle.card_model.specs.Settings.{cidBytes, csdBytes}
 use Rattle.card_model.specs.Record.{withKept, withApp}
-use Rattle.card_model.specs.Status.{noBits, withoutIllegal, ILLEGAL-COMMAND, ERASE-RESET, status}
-use Rattle.card_model.specs.Table.{nameOf, ina, code, legal}
-use Rattle.card_model.specs.Execute as Execute
-use Rattle.card_model.specs.Execute.{Effect, same, Done, raise, pending, dropErase, run}
+use Rattle.card_model.specs.State.{number, ina}
+use Rattle.card_model.specs.Status.{noBits, withoutIllegal, ILLEGAL-COMMAND, status}
+use Rattle.card_model.specs.Table.{row, commandOf, own, misses, showsApp, setsApp, legal}
+use Rattle.card_model.specs.Execute.{ran, raise, settled, run}
+
+-- ---- which command, allowed or not, and what it does
+
+abbrev pub judged : Verdict → Command → Done → Judged
+judged v k d = record { verdict = v; command = k; done = d }
+
+-- not allowed here or not in the table; addressed to another RCA; or it runs
+unfoldable pub judge : Core → ℕ → ℕ → Judged
+judge c index argument =
+    let k = commandOf (c .bus) index argument in
+    cond (legal k (c .bus .state))
+    (cond (misses (row k .rca) (own (c .bus) argument)) (judged OtherCard k (ran c Response.Nothing))
+    (judged Ran k (run k (settled k c) argument)))
+    (judged NotAllowed k (ran c Response.Nothing))
 
 -- ---- what a call comes to, before the line adds COM_CRC_ERROR and the checks
-
--- what becomes of COM_CRC_ERROR
-pub data Flag : Type 0 where
-  keep set clear : Flag
 
 pub data Message : Type 0 where
   silence : Message
@@ -47,119 +64,65 @@ pub record Turn : Type 0 where
   pub flag : Flag
   pub message : Message
   pub effect : Effect
+  -- of a block that is stored
+  pub payload : List ℕ
 
--- silence, and nothing but COM_CRC_ERROR changes
+-- silence, with the record as it is given; memory and marks stay
 abbrev pub quiet : Core → Flag → Turn
-quiet c f = record { core = c; flag = f; message = silence; effect = same }
+quiet c f = record { core = c; flag = f; message = silence; effect = Effect.Nothing; payload = [] }
 
--- ---- which command it is
+-- ---- SD mode: a command that ran; state is the number of the state at reception
 
-pub record Row : Type 0 where
-  pub index : ℕ
-  pub command : Command
-  -- the argument's upper half is the RCA of the card that is meant
-  pub addressed : Bool
-  -- bit 5 shows in its answer
-  pub app : Bool
-
-infix 70 _is_ _to_ _app_
-abbrev pub _is_ : ℕ → Command → Row
-i is c = record { index = i; command = c; addressed = false; app = false }
-
-abbrev pub _to_ : ℕ → Command → Row
-i to c = record { index = i; command = c; addressed = true; app = false }
-
-abbrev pub _app_ : ℕ → Command → Row
-i app c = record { index = i; command = c; addressed = false; app = true }
-
-abbrev pub APP-CMD : Row
-APP-CMD = record { index = 55; command = AppCmd; addressed = true; app = true }
-
-unfoldable pub find : List Row → ℕ → Row → Row
-find [] i other = other
-find (r ∷ rows) i other = cond (eqb (r .index) i) r (find rows i other)
-
--- 7 is two rows: by the card's own address and by another
-unfoldable pub plainRows : Bool → List Row
-plainRows own =
-    0 is GoIdleState ∷ 2 is AllSendCid ∷ 3 is SendRelativeAddr ∷ 7 is cond own SelectCard DeselectCard ∷ 8 is SendIfCond ∷ 9 to SendCsd
-    ∷ 10 to SendCid ∷ 12 is StopTransmission ∷ 13 to SendStatus ∷ 15 to GoInactiveState ∷ 16 is SetBlocklen ∷ 17 is ReadSingleBlock
-    ∷ 18 is ReadMultipleBlock ∷ 24 is WriteBlock ∷ 25 is WriteMultipleBlock ∷ 28 is SetWriteProt ∷ 29 is ClrWriteProt
-    ∷ 30 is SendWriteProt ∷ 32 is EraseWrBlkStart ∷ 33 is EraseWrBlkEnd ∷ 38 is Erase ∷ APP-CMD ∷ []
-
-unfoldable pub appRows : List Row
-appRows =
-    13 app SdStatus ∷ 22 app SendNumWrBlocks ∷ 23 app SetWrBlkEraseCount ∷ 41 app SdSendOpCond ∷ 42 app SetClrCardDetect
-    ∷ 51 app SendScr ∷ []
-
--- the argument's RCA is the card's
-abbrev pub own : Core → ℕ → Bool
-own c argument = eqb (argument / 2 ^ 16) (c .bus .rca)
-
--- after 55 an index with an A row runs as that; others run as plain
-unfoldable pub rowOf : Core → ℕ → ℕ → Row
-rowOf c index argument =
-    let plain = find (plainRows (own c argument)) index (index is Unknown) in
-    cond (c .bus .app) (find appRows index plain) plain
-
--- ---- a command that runs
-
--- any other command than 0, 32, 33 and 38 clears pending erase marks with ERASE_RESET
-unfoldable pub settled : ℕ → Core → Core
-settled index c =
-    cond (eqb index 0 || (eqb index 32 || (eqb index 33 || eqb index 38))) c (cond (pending c) (dropErase c ERASE-RESET) c)
-
--- the status word that a response shows: the bits held before and the command's own, the state at reception
-abbrev pub wordOf : Row → Core → Done → ℕ
-wordOf row before d = status (d .core .kept) (nameOf (before .bus .state)) (row .app)
+-- the status word that a response shows: the bits held before and the command's own
+abbrev pub wordOf : Command → ℕ → Done → ℕ
+wordOf k state d = status (d .core .kept) state (showsApp (row k .kind))
 
 -- the message of a response
-unfoldable pub messageOf : Row → Core → Done → Execute.Response → Message
-messageOf row before d Execute.nothing = silence
-messageOf row before d Execute.r1 = r1 (row .index) (wordOf row before d)
-messageOf row before d Execute.r6 = r6 (d .core .bus .rca) (wordOf row before d)
-messageOf row before d (Execute.r2 content) = plain (image Response.r2 content)
-messageOf row before d (Execute.r3 ocr) = plain (image Response.r3 (ocr ∷ []))
-messageOf row before d (Execute.r7 voltage pattern) = plain (image Response.r7 (voltage ∷ pattern ∷ []))
+unfoldable pub messageOf : Command → ℕ → Done → Response → Message
+messageOf k state d Response.Nothing = silence
+messageOf k state d R1 = r1 (row k .index) (wordOf k state d)
+messageOf k state d R6 = r6 (d .core .bus .rca) (wordOf k state d)
+messageOf k state d Cid = plain (Wire.r2Bytes (cidBytes (d .core .settings)))
+messageOf k state d Csd = plain (Wire.r2Bytes (csdBytes (d .core .csd)))
+messageOf k state d (R3 ocr) = plain (image Wire.r3 (ocr ∷ []))
+messageOf k state d (R7 voltage pattern) = plain (image Wire.r7 (voltage ∷ pattern ∷ []))
 
 -- bit 22 goes, and so does each clear-by-read bit that the response carried: R1 carries them all, the others none that is kept
-unfoldable pub cleared : Execute.Response → Core → Core
-cleared Execute.nothing c = withKept c (withoutIllegal (c .kept))
-cleared Execute.r1 c = withKept c noBits
-cleared Execute.r6 c = withKept c (withoutIllegal (c .kept))
-cleared (Execute.r2 content) c = withKept c (withoutIllegal (c .kept))
-cleared (Execute.r3 ocr) c = withKept c (withoutIllegal (c .kept))
-cleared (Execute.r7 voltage pattern) c = withKept c (withoutIllegal (c .kept))
+unfoldable pub cleared : Response → Core → Core
+cleared Response.Nothing c = withKept c (withoutIllegal (c .kept))
+cleared R1 c = withKept c noBits
+cleared R6 c = withKept c (withoutIllegal (c .kept))
+cleared Cid c = withKept c (withoutIllegal (c .kept))
+cleared Csd c = withKept c (withoutIllegal (c .kept))
+cleared (R3 ocr) c = withKept c (withoutIllegal (c .kept))
+cleared (R7 voltage pattern) c = withKept c (withoutIllegal (c .kept))
 
 -- the application mark is then set exactly if it was command 55
-abbrev pub finish : Row → Core → Done → Turn
-finish row before d = record {
-  core = withApp (cleared (d .response) (d .core)) (eqb (row .index) 55);
-  flag = clear;
-  message = messageOf row before d (d .response);
+abbrev pub finish : Command → ℕ → Done → Turn
+finish k state d = record {
+  core = withApp (cleared (d .response) (d .core)) (setsApp (row k .kind));
+  flag = Clear;
+  message = messageOf k state d (d .response);
   effect = d .effect;
+  payload = [];
 }
 
--- not allowed here or not in the table; addressed to another RCA; or it runs
-unfoldable pub execute : Core → ℕ → ℕ → Turn
-execute c index argument =
-    let row = rowOf c index argument in
-    cond (legal (row .command) (c .bus .state))
-    (cond (row .addressed && not (own c argument)) (quiet (withApp c false) keep)
-    (finish row c (run (row .command) (settled index c) argument)))
-    (quiet (withApp (raise c ILLEGAL-COMMAND) false) keep)
+-- ---- SD mode: the frame rules
 
--- ---- the frame rules
+unfoldable pub showSd : Core → Judged → Turn
+showSd c j = elim (j .verdict) [
+  | NotAllowed ↦ quiet (withApp (raise c ILLEGAL-COMMAND) false) Keep
+  | OtherCard ↦ quiet (withApp c false) Keep
+  | Ran ↦ finish (j .command) (number (c .bus .state)) (j .done)
+]
 
 -- what the frame check says: start or transmission bit wrong, nothing changes (house); check or end bit wrong, COM_CRC_ERROR
-unfoldable pub byCheck : FrameCheck → Core → List ℕ → Turn
-byCheck Good c fields = execute c (getD fields 0 0) (getD fields 1 0)
-byCheck Size c fields = quiet c keep
-byCheck Start c fields = quiet c keep
-byCheck Check c fields = quiet c set
+unfoldable pub byCheck : FrameCheck → Core → Turn
+byCheck (Good index argument) c = showSd c (judge c index argument)
+byCheck Size c = quiet c Keep
+byCheck Start c = quiet c Keep
+byCheck Check c = quiet c Set
 
 -- in ina nothing changes
 unfoldable pub receive : Core → List ℕ → Turn
-receive c frame =
-    cond (eqb (code (nameOf (c .bus .state))) (code ina)) (quiet c keep)
-    (byCheck (frameCheck frame) c (read (command .slots) (bitsOf frame)))
+receive c frame = cond (eqb (number (c .bus .state)) ina) (quiet c Keep) (byCheck (frameCheck frame) c)

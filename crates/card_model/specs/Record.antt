@@ -2,11 +2,11 @@
 use mathlib.Core.Bool.{Bool, true, false}
 use mathlib.Core.List.{List}
 use Prim.Native.Nat.{ℕ}
-use Rattle.card_model.specs.declared.card.State.{State}
-use Rattle.card_model.specs.declared.card.Mark.{Mark}
-use Rattle.card_model.specs.declared.card.Mark.the-variants.{Unset, At}
+use Rattle.card_model.specs.declared.state.State.{State}
+use Rattle.card_model.specs.declared.card.EraseMark.{EraseMark}
+use Rattle.card_model.specs.declared.card.EraseMark.the-variants.{Unset, At}
 use Rattle.card_model.specs.declared.card.Bus.{Bus}
-use Rattle.card_model.specs.declared.card.Erase.{Erase}
+use Rattle.card_model.specs.declared.card.EraseMarks.{EraseMarks}
 use Rattle.card_model.specs.declared.card.Kept.{Kept}
 use Rattle.card_model.specs.declared.card.Core.{Core}
 
@@ -34,7 +34,7 @@ withKept c k = record {
   marks = c .marks;
 }
 
-abbrev pub withErase : Core → Erase → Core
+abbrev pub withErase : Core → EraseMarks → Core
 withErase c e = record {
   settings = c .settings;
   csd = c .csd;
@@ -97,14 +97,14 @@ withPolls c n = withBus c (record { state = c .bus .state; rca = c .bus .rca; pu
 
 -- ---- erase marks
 
-abbrev pub noErase : Erase
+abbrev pub noErase : EraseMarks
 noErase = record { first = Unset; second = Unset }
 
-abbrev pub isSet : Mark → Bool
+abbrev pub isSet : EraseMark → Bool
 isSet Unset = false
 isSet (At a) = true
 
 -- the address of a mark; 0 where there is none
-abbrev pub address : Mark → ℕ
+abbrev pub address : EraseMark → ℕ
 address Unset = 0
 address (At a) = a

@@ -4,8 +4,8 @@ use mathlib.Core.List.{List, _∷_}
 use Prim.Native.Nat.{ℕ, _+_, _-_, _*_, _/_}
 use lib.Dec.{leb}
 use lib.ListN.{replicate}
-use Rattle.crc.specs.Bits.{bytes}
-use Rattle.codec.specs.Layout.{fits, write}
+use Rattle.codec.specs.Layout.{fits}
+use Rattle.codec.specs.Format.{image}
 use Rattle.reg_cid.specs.Cid.{cid, cidValues}
 use Rattle.reg_csd.specs.Csd.{csd, csdValues}
 use Rattle.reg_size.specs.Size.{sizePair}
@@ -21,9 +21,23 @@ BLOCK = 512
 abbrev pub GROUP : ℕ
 GROUP = 32
 
+-- limits of the block count and of the start polls
+abbrev pub LEAST : ℕ
+LEAST = 4
+
+abbrev pub MOST : ℕ
+MOST = 65536
+
+abbrev pub POLLS : ℕ
+POLLS = 15
+
 -- the first byte address behind the card
 abbrev pub capacity : Settings → ℕ
 capacity s = s .blocks * BLOCK
+
+-- the byte address that the argument of a command means
+abbrev pub addressOf : Settings → ℕ → ℕ
+addressOf s argument = argument
 
 -- how many protection groups; the last may be short
 abbrev pub groups : Settings → ℕ
@@ -45,7 +59,8 @@ pairMult NoPair = 0
 -- 4 to 65,536 blocks that some pair gives; 0 to 15 polls; CID fields that fit
 unfoldable pub allowed : Settings → Bool
 allowed s =
-    leb 4 (s .blocks) && (leb (s .blocks) 65536 && (isPair (sizePair (s .blocks)) && (leb (s .polls) 15 && fits (cid .slots) (cidValues (s .cid)))))
+    leb LEAST (s .blocks)
+    && (leb (s .blocks) MOST && (isPair (sizePair (s .blocks)) && (leb (s .polls) POLLS && fits (cid .slots) (cidValues (s .cid)))))
 
 -- the CSD that the card gives
 unfoldable pub csdOf : Settings → Csd
@@ -80,12 +95,12 @@ csdOf s = record {
   «file_format» = 0;
 }
 
--- the fifteen bytes of content that an R2 carries
-abbrev pub cidContent : Settings → List ℕ
-cidContent s = bytes 15 (write (cid .slots) (cidValues (s .cid)))
+-- the registers that an R2 carries, with their own check
+abbrev pub cidBytes : Settings → List ℕ
+cidBytes s = image cid (cidValues (s .cid))
 
-abbrev pub csdContent : Csd → List ℕ
-csdContent c = bytes 15 (write (csd .slots) (csdValues c))
+abbrev pub csdBytes : Csd → List ℕ
+csdBytes c = image csd (csdValues c)
 
 -- house: version 2.00, one line
 abbrev pub scrBytes : List ℕ

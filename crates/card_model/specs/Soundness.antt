@@ -5,13 +5,14 @@ use Prim.Native.Nat.{ℕ, _+_, _/_, _%_, _^_}
 use lib.Dec.{eqb, leb, ltb}
 use lib.ListN.{getD, drop}
 use Rattle.reg_csd.specs.Csd.{csdValues}
-use Rattle.card_model.specs.declared.card.Source.the-variants.{Blocks, WriteProtect, SdStatus, WrittenBlocks, Scr}
-use Rattle.card_model.specs.declared.card.State.{State}
-use Rattle.card_model.specs.declared.card.State.the-variants.{Idle, Ready, Ident, Stby, Tran, Data, Rcv, Prg, Dis, Ina}
-use Rattle.card_model.specs.declared.card.Mark.{Mark}
-use Rattle.card_model.specs.declared.card.Mark.the-variants.{Unset, At}
+use Rattle.card_model.specs.declared.state.Open.{Open}
+use Rattle.card_model.specs.declared.state.Open.the-variants.{Nothing, Read, Write, Busy}
+use Rattle.card_model.specs.declared.card.EraseMark.{EraseMark}
+use Rattle.card_model.specs.declared.card.EraseMark.the-variants.{Unset, At}
 use Rattle.card_model.specs.declared.card.Core.{Core}
 use Rattle.card_model.specs.Settings.{BLOCK, capacity, groups, allowed, csdOf}
+use Rattle.card_model.specs.State.{ready, ident, stby, ina, number, openOf, transferAddress, sinkAddress}
+use Rattle.card_model.specs.Checks.{outside, offBlock}
 
 -- two lists of numbers are the same
 unfoldable pub equal : List ℕ → List ℕ → Bool
@@ -24,65 +25,27 @@ equal (x ∷ xs) (y ∷ ys) = eqb x y && equal xs ys
 abbrev pub badSettings : Core → Bool
 badSettings c = not (allowed (c .settings) && equal (csdValues (c .csd)) (csdValues (csdOf (c .settings))))
 
--- the transfer's address
-unfoldable pub transferAddress : State → ℕ
-transferAddress Idle = 0
-transferAddress Ready = 0
-transferAddress Ident = 0
-transferAddress Stby = 0
-transferAddress Tran = 0
-transferAddress (Data (Blocks multiple address held)) = address
-transferAddress (Data (WriteProtect address)) = address
-transferAddress (Data SdStatus) = 0
-transferAddress (Data WrittenBlocks) = 0
-transferAddress (Data Scr) = 0
-transferAddress (Rcv s) = s .address
-transferAddress Prg = 0
-transferAddress Dis = 0
-transferAddress Ina = 0
+-- a write's address is not a multiple of 512
+abbrev pub offWrite : Open → Bool
+offWrite Nothing = false
+offWrite (Read s) = false
+offWrite (Write s) = offBlock (sinkAddress s)
+offWrite (Busy s) = false
 
 -- the blocks below a write transfer's address, or n elsewhere: the most that A22 can count
-unfoldable pub writtenMost : State → ℕ → ℕ
-writtenMost Idle n = n
-writtenMost Ready n = n
-writtenMost Ident n = n
-writtenMost Stby n = n
-writtenMost Tran n = n
-writtenMost (Data s) n = n
-writtenMost (Rcv s) n = s .address / BLOCK
-writtenMost Prg n = n
-writtenMost Dis n = n
-writtenMost Ina n = n
+abbrev pub writtenMost : Open → ℕ → ℕ
+writtenMost Nothing n = n
+writtenMost (Read s) n = n
+writtenMost (Write s) n = sinkAddress s / BLOCK
+writtenMost (Busy s) n = n
 
--- a write's address is not a multiple of 512
-unfoldable pub offBlock : State → Bool
-offBlock Idle = false
-offBlock Ready = false
-offBlock Ident = false
-offBlock Stby = false
-offBlock Tran = false
-offBlock (Data s) = false
-offBlock (Rcv s) = not (eqb (s .address % BLOCK) 0)
-offBlock Prg = false
-offBlock Dis = false
-offBlock Ina = false
+abbrev pub markOutside : ℕ → EraseMark → Bool
+markOutside top Unset = false
+markOutside top (At a) = outside top a
 
-abbrev pub outside : ℕ → Mark → Bool
-outside top Unset = false
-outside top (At a) = leb top a
-
--- RCA nonzero in idle, ready, ident or zero in stby..dis
-unfoldable pub badRca : State → ℕ → Bool
-badRca Idle rca = not (eqb rca 0)
-badRca Ready rca = not (eqb rca 0)
-badRca Ident rca = not (eqb rca 0)
-badRca Stby rca = eqb rca 0
-badRca Tran rca = eqb rca 0
-badRca (Data s) rca = eqb rca 0
-badRca (Rcv s) rca = eqb rca 0
-badRca Prg rca = eqb rca 0
-badRca Dis rca = eqb rca 0
-badRca Ina rca = false
+-- RCA nonzero in idle, ready, ident or zero in stby..dis; free in ina
+unfoldable pub badRca : ℕ → ℕ → Bool
+badRca state rca = cond (eqb state ina) false (cond (leb stby state) (eqb rca 0) (not (eqb rca 0)))
 
 -- some byte is not zero
 unfoldable pub anyByte : List ℕ → Bool
@@ -94,33 +57,25 @@ unfoldable pub markedFrom : List ℕ → ℕ → Bool
 markedFrom marks group = not (eqb (getD marks (group / 8) 0 / 2 ^ (group % 8)) 0) || anyByte (drop (group / 8 + 1) marks)
 
 -- the application mark in ready, ident or ina
-unfoldable pub badApp : State → Bool → Bool
-badApp Idle app = false
-badApp Ready app = app
-badApp Ident app = app
-badApp Stby app = false
-badApp Tran app = false
-badApp (Data s) app = false
-badApp (Rcv s) app = false
-badApp Prg app = false
-badApp Dis app = false
-badApp Ina app = app
+unfoldable pub badApp : ℕ → Bool → Bool
+badApp state app = app && (eqb state ready || (eqb state ident || eqb state ina))
 
 -- the list
 unfoldable pub unsoundTests : Core → List Bool
 unsoundTests c =
+    let o = openOf (c .bus .state) in
     badSettings c
     ∷ ltb (c .settings .polls) (c .bus .polls)
     ∷ not (leb 1 (c .length) && leb (c .length) BLOCK)
-    ∷ ltb (capacity (c .settings)) (transferAddress (c .bus .state))
-    ∷ offBlock (c .bus .state)
+    ∷ ltb (capacity (c .settings)) (transferAddress o)
+    ∷ offWrite o
     ∷ ltb (c .settings .blocks) (c .written)
-    ∷ ltb (writtenMost (c .bus .state) (c .settings .blocks)) (c .written)
-    ∷ outside (capacity (c .settings)) (c .erase .first)
-    ∷ outside (capacity (c .settings)) (c .erase .second)
-    ∷ badRca (c .bus .state) (c .bus .rca)
+    ∷ ltb (writtenMost o (c .settings .blocks)) (c .written)
+    ∷ markOutside (capacity (c .settings)) (c .erase .first)
+    ∷ markOutside (capacity (c .settings)) (c .erase .second)
+    ∷ badRca (number (c .bus .state)) (c .bus .rca)
     ∷ markedFrom (c .marks) (groups (c .settings))
-    ∷ badApp (c .bus .state) (c .bus .app) ∷ []
+    ∷ badApp (number (c .bus .state)) (c .bus .app) ∷ []
 
 unfoldable pub anyOf : List Bool → Bool
 anyOf [] = false

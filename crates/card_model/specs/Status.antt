@@ -1,9 +1,66 @@
--- The card status (01, "Frames"): the bits that are kept, and the word that a response shows.
-use mathlib.Core.Bool.{Bool, true, false, _||_}
+-- The card status (01, "Frames"): the bits that are kept, by the standard's numbers, and the word that a response shows.
+use mathlib.Core.Bool.{Bool, false, _||_}
 use Prim.Native.Nat.{ℕ, _+_, _*_, _^_}
+use lib.Dec.{eqb}
 use Rattle.crc.specs.Bits.{digit}
 use Rattle.card_model.specs.declared.card.Kept.{Kept}
-use Rattle.card_model.specs.Table.{Name, idle, ready, ident, stby, tran, «data», rcv, prg, dis, ina, code}
+use Rattle.card_model.specs.State.{readyFor}
+
+-- ---- bits
+
+abbrev pub OUT-OF-RANGE : ℕ
+OUT-OF-RANGE = 31
+
+abbrev pub ADDRESS-ERROR : ℕ
+ADDRESS-ERROR = 30
+
+abbrev pub BLOCK-LEN-ERROR : ℕ
+BLOCK-LEN-ERROR = 29
+
+abbrev pub ERASE-SEQ-ERROR : ℕ
+ERASE-SEQ-ERROR = 28
+
+abbrev pub ERASE-PARAM : ℕ
+ERASE-PARAM = 27
+
+abbrev pub WP-VIOLATION : ℕ
+WP-VIOLATION = 26
+
+abbrev pub COM-CRC-ERROR : ℕ
+COM-CRC-ERROR = 23
+
+abbrev pub ILLEGAL-COMMAND : ℕ
+ILLEGAL-COMMAND = 22
+
+abbrev pub WP-ERASE-SKIP : ℕ
+WP-ERASE-SKIP = 15
+
+abbrev pub ERASE-RESET : ℕ
+ERASE-RESET = 13
+
+-- CURRENT_STATE has bits 12..9
+abbrev pub CURRENT-STATE : ℕ
+CURRENT-STATE = 9
+
+abbrev pub READY-FOR-DATA : ℕ
+READY-FOR-DATA = 8
+
+abbrev pub APP-CMD : ℕ
+APP-CMD = 5
+
+-- the one bit of a number
+abbrev pub only : ℕ → Kept
+only n = record {
+  «out_of_range» = eqb n OUT-OF-RANGE;
+  «address_error» = eqb n ADDRESS-ERROR;
+  «block_len_error» = eqb n BLOCK-LEN-ERROR;
+  «erase_seq_error» = eqb n ERASE-SEQ-ERROR;
+  «erase_param» = eqb n ERASE-PARAM;
+  «wp_violation» = eqb n WP-VIOLATION;
+  «illegal_command» = eqb n ILLEGAL-COMMAND;
+  «wp_erase_skip» = eqb n WP-ERASE-SKIP;
+  «erase_reset» = eqb n ERASE-RESET;
+}
 
 abbrev pub noBits : Kept
 noBits = record {
@@ -32,47 +89,6 @@ join a b = record {
   «erase_reset» = a .«erase_reset» || b .«erase_reset»;
 }
 
--- one bit each
-abbrev pub bits : Bool → Bool → Bool → Bool → Bool → Bool → Bool → Bool → Bool → Kept
-bits oor adr len seq par wpv ill skip reset = record {
-  «out_of_range» = oor;
-  «address_error» = adr;
-  «block_len_error» = len;
-  «erase_seq_error» = seq;
-  «erase_param» = par;
-  «wp_violation» = wpv;
-  «illegal_command» = ill;
-  «wp_erase_skip» = skip;
-  «erase_reset» = reset;
-}
-
-abbrev pub OUT-OF-RANGE : Kept
-OUT-OF-RANGE = bits true false false false false false false false false
-
-abbrev pub ADDRESS-ERROR : Kept
-ADDRESS-ERROR = bits false true false false false false false false false
-
-abbrev pub BLOCK-LEN-ERROR : Kept
-BLOCK-LEN-ERROR = bits false false true false false false false false false
-
-abbrev pub ERASE-SEQ-ERROR : Kept
-ERASE-SEQ-ERROR = bits false false false true false false false false false
-
-abbrev pub ERASE-PARAM : Kept
-ERASE-PARAM = bits false false false false true false false false false
-
-abbrev pub WP-VIOLATION : Kept
-WP-VIOLATION = bits false false false false false true false false false
-
-abbrev pub ILLEGAL-COMMAND : Kept
-ILLEGAL-COMMAND = bits false false false false false false true false false
-
-abbrev pub WP-ERASE-SKIP : Kept
-WP-ERASE-SKIP = bits false false false false false false false true false
-
-abbrev pub ERASE-RESET : Kept
-ERASE-RESET = bits false false false false false false false false true
-
 -- bit 22 goes after every command that runs
 abbrev pub withoutIllegal : Kept → Kept
 withoutIllegal k = record {
@@ -87,35 +103,28 @@ withoutIllegal k = record {
   «erase_reset» = k .«erase_reset»;
 }
 
--- bit 8: ready for data, except in prg and dis (house)
-abbrev pub readyFor : Name → Bool
-readyFor idle = true
-readyFor ready = true
-readyFor ident = true
-readyFor stby = true
-readyFor tran = true
-readyFor «data» = true
-readyFor rcv = true
-readyFor prg = false
-readyFor dis = false
-readyFor ina = true
+-- ---- the word
 
--- the status without COM_CRC_ERROR: kept bits, state at reception, ready, and bit 5 for 55 and application commands
-unfoldable pub status : Kept → Name → Bool → ℕ
-status k s app =
-    digit (k .«out_of_range») * 2 ^ 31
-    + digit (k .«address_error») * 2 ^ 30
-    + digit (k .«block_len_error») * 2 ^ 29
-    + digit (k .«erase_seq_error») * 2 ^ 28
-    + digit (k .«erase_param») * 2 ^ 27
-    + digit (k .«wp_violation») * 2 ^ 26
-    + digit (k .«illegal_command») * 2 ^ 22
-    + digit (k .«wp_erase_skip») * 2 ^ 15
-    + digit (k .«erase_reset») * 2 ^ 13
-    + code s * 2 ^ 9
-    + digit (readyFor s) * 2 ^ 8
-    + digit app * 2 ^ 5
+-- a bit at its number
+abbrev pub at : ℕ → Bool → ℕ
+at n b = digit b * 2 ^ n
 
--- the word on the wire: COM_CRC_ERROR is bit 23
+-- the status without COM_CRC_ERROR: kept bits, number of the state at reception, ready, and bit 5 for 55 and application commands
+unfoldable pub status : Kept → ℕ → Bool → ℕ
+status k state app =
+    at OUT-OF-RANGE (k .«out_of_range»)
+    + at ADDRESS-ERROR (k .«address_error»)
+    + at BLOCK-LEN-ERROR (k .«block_len_error»)
+    + at ERASE-SEQ-ERROR (k .«erase_seq_error»)
+    + at ERASE-PARAM (k .«erase_param»)
+    + at WP-VIOLATION (k .«wp_violation»)
+    + at ILLEGAL-COMMAND (k .«illegal_command»)
+    + at WP-ERASE-SKIP (k .«wp_erase_skip»)
+    + at ERASE-RESET (k .«erase_reset»)
+    + state * 2 ^ CURRENT-STATE
+    + at READY-FOR-DATA (readyFor state)
+    + at APP-CMD app
+
+-- the word on the wire
 abbrev pub shown : Bool → ℕ → ℕ
-shown crcError word = digit crcError * 2 ^ 23 + word
+shown crcError word = at COM-CRC-ERROR crcError + word

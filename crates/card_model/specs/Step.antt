@@ -3,30 +3,34 @@ use mathlib.Core.Path.{_≡_}
 use mathlib.Core.Bool.{Bool, true, false, cond, not}
 use mathlib.Core.List.{List, [], _∷_, _++_}
 use mathlib.Core.Option.{Option, none, some}
-use Prim.Native.Nat.{ℕ, zero, suc, _+_, _-_, _*_}
+use Prim.Native.Nat.{ℕ, _+_}
 use lib.Dec.{eqb, ltb}
-use lib.ListN.{length, take, drop, replicate}
+use lib.ListN.{length, drop, replicate}
 use Rattle.codec.specs.Answer.{Outcome, done, refused}
 use Rattle.codec.specs.Format.{image}
-use Rattle.wire_response.specs.Response as Response
+use Rattle.wire_response.specs.Response as Wire
 use Rattle.wire_response.specs.Status.{shortStatus}
-use Rattle.wire_packet.specs.Packet.{packet}
+use Rattle.wire_packet.specs.Packet.{packet, CHECK}
 use Rattle.card_model.specs.declared.answer.Answer.{Answer}
 use Rattle.card_model.specs.declared.answer.Answer.the-variants.{Silence, Sent, Accepted, Rejected, Over, Refused}
+use Rattle.card_model.specs.declared.answer.Rows.{Rows}
 use Rattle.card_model.specs.declared.settings.Settings.{Settings}
-use Rattle.card_model.specs.declared.card.Source.{Source}
-use Rattle.card_model.specs.declared.card.Sink.{Sink}
-use Rattle.card_model.specs.declared.card.State.{State}
-use Rattle.card_model.specs.declared.card.State.the-variants.{Idle, Ready, Ident, Stby, Tran, Data, Rcv, Prg, Dis, Ina}
+use Rattle.card_model.specs.declared.state.State.the-variants.{Idle}
+use Rattle.card_model.specs.declared.state.Open.{Open}
 use Rattle.card_model.specs.declared.card.Core.{Core}
+use Rattle.card_model.specs.declared.card.Line.{Line}
 use Rattle.card_model.specs.declared.card.Card.{Card}
+use Rattle.card_model.specs.declared.done.Flag.{Flag}
+use Rattle.card_model.specs.declared.done.Flag.the-variants.{Keep, Set, Clear}
 use Rattle.card_model.specs.Settings.{BLOCK, capacity, allowed, csdOf}
-use Rattle.card_model.specs.Record.{noErase}
+use Rattle.card_model.specs.Record.{noErase, withMarks}
+use Rattle.card_model.specs.State.{openOf, reading, writing, busy}
 use Rattle.card_model.specs.Status.{noBits, shown}
 use Rattle.card_model.specs.Soundness.{unsound}
-use Rattle.card_model.specs.Checks.{guarded}
-use Rattle.card_model.specs.Execute.{Effect, same, store, sweep, reset}
-use Rattle.card_model.specs.Frame.{Flag, keep, set, clear, Message, silence, r1, r6, plain, block, token, finished, Turn, receive}
+use Rattle.card_model.specs.Protect.{whole}
+use Rattle.card_model.specs.Execute.{reset}
+use Rattle.card_model.specs.Effects.{Stored, stored, affected}
+use Rattle.card_model.specs.Frame.{Message, silence, r1, r6, plain, block, token, finished, Turn, receive}
 use Rattle.card_model.specs.Data.{takeFrom, blockInto, overFrom, ACCEPTED, REJECTED}
 
 -- ---- calls, and what stays between them
@@ -44,6 +48,9 @@ pub data Call : Type 0 where
 pub record World : Type 0 where
   pub card : Card
   pub memory : List ℕ
+
+abbrev pub world : Card → List ℕ → World
+world card memory = record { card = card; memory = memory }
 
 -- ---- answers: each case of the enum with 01's number or value
 
@@ -68,8 +75,8 @@ answer (Refused k) = refused k
 -- the bytes that a message sends, with COM_CRC_ERROR as the line has it
 unfoldable pub wire : Bool → Message → List ℕ
 wire crc silence = []
-wire crc (r1 index word) = image (Response.r1 index) (shown crc word ∷ [])
-wire crc (r6 rca word) = image Response.r6 (rca ∷ shortStatus (shown crc word) ∷ [])
+wire crc (r1 index word) = image (Wire.r1 index) (shown crc word ∷ [])
+wire crc (r6 rca word) = image Wire.r6 (rca ∷ shortStatus (shown crc word) ∷ [])
 wire crc (plain s) = s
 wire crc (block payload) = packet payload
 wire crc (token n) = []
@@ -84,34 +91,27 @@ replyOf crc (block payload) = sent (length (wire crc (block payload)))
 replyOf crc (token n) = answered n
 replyOf crc finished = over
 
-unfoldable pub flagged : Flag → Bool → Bool
-flagged keep crc = crc
-flagged set crc = true
-flagged clear crc = false
+-- what the line keeps
+abbrev pub line : Bool → Line
+line crc = record { «com_crc_error» = crc }
 
--- the block of a number as it is after a sweep
-unfoldable pub swept : Core → ℕ → ℕ → List ℕ → List ℕ
-swept c b zero memory = memory
-swept c b (suc k) memory =
-    let address = b * BLOCK in
-    let next = cond (guarded c address) memory (take address memory ++ (replicate BLOCK 0 ++ drop (address + BLOCK) memory)) in
-    swept c (b + 1) k next
-
-unfoldable pub affected : Core → Effect → List ℕ → List ℕ
-affected c same memory = memory
-affected c (store address s) memory = take address memory ++ (s ++ drop (address + length s) memory)
-affected c (sweep first last) memory = swept c first (last + 1 - first) memory
+unfoldable pub flagged : Flag → Line → Line
+flagged Keep l = l
+flagged Set l = line true
+flagged Clear l = line false
 
 pub record Result : Type 0 where
   pub answer : Outcome Reply
   pub world : World
   pub out : List ℕ
-  -- what was sent, for the claim that excepts two places of R1 and R6
-  pub message : Message
 
 -- a refused call returns its number and nothing else
 abbrev pub refuse : World → List ℕ → ℕ → Result
-refuse w out k = record { answer = refused k; world = w; out = out; message = silence }
+refuse w out k = record { answer = refused k; world = w; out = out }
+
+-- memory and marks after a turn
+abbrev pub after : World → Turn → Stored
+after w t = affected (whole (w .card .core .settings)) (t .effect) (t .payload) (stored (w .memory) (w .card .core .marks))
 
 -- a call that was not refused: messages go out as a prefix of the buffer
 unfoldable pub show : World → List ℕ → Turn → Result
@@ -120,34 +120,72 @@ show w out t =
     let s = wire crc (t .message) in
     record {
       answer = done (replyOf crc (t .message));
-      world = record {
-        card = record { core = t .core; line = record { «com_crc_error» = flagged (t .flag) crc } };
-        memory = affected (w .card .core) (t .effect) (w .memory);
-      };
+      world = world (record { core = withMarks (t .core) (after w t .marks); line = flagged (t .flag) (w .card .line) }) (after w t .memory);
       out = s ++ drop (length s) out;
-      message = t .message;
     }
 
 -- ---- refusals
 
-pub record Refusal : Type 0 where
-  pub applies : Bool
-  pub number : ℕ
+-- whether the row of a number applies
+unfoldable pub applies : Rows → ℕ → Bool
+applies r n =
+    cond (eqb n 1) (r .size) (cond (eqb n 2) (r .unsound) (cond (eqb n 3) (r .memory)
+    (cond (eqb n 4) (r .buffer) (cond (eqb n 5) (r .closed) (cond (eqb n 6) (r .settings) false)))))
 
-infix 70 _gives_
-abbrev pub _gives_ : Bool → ℕ → Refusal
-b gives n = record { applies = b; number = n }
+-- of the rows that a call has, in their order, the first that applies
+unfoldable pub refusal : List ℕ → Rows → Option ℕ
+refusal [] r = none
+refusal (n ∷ ns) r = cond (applies r n) (some n) (refusal ns r)
 
--- the first that applies, or the call
-unfoldable pub unless : List Refusal → World → List ℕ → Result → Result
-unless [] w out r = r
-unless (x ∷ xs) w out r = cond (x .applies) (refuse w out (x .number)) (unless xs w out r)
+abbrev pub POWER-ROWS : List ℕ
+POWER-ROWS = 3 ∷ 6 ∷ []
 
--- rows 2 and 3
-abbrev pub rows23 : World → List Refusal → List Refusal
-rows23 w rest =
-    unsound (w .card .core) gives 2
-    ∷ not (eqb (length (w .memory)) (capacity (w .card .core .settings))) gives 3 ∷ rest
+abbrev pub FRAME-ROWS : List ℕ
+FRAME-ROWS = 1 ∷ 2 ∷ 3 ∷ 4 ∷ []
+
+abbrev pub BLOCK-ROWS : List ℕ
+BLOCK-ROWS = 1 ∷ 2 ∷ 3 ∷ 5 ∷ []
+
+abbrev pub TAKE-ROWS : List ℕ
+TAKE-ROWS = 2 ∷ 3 ∷ 4 ∷ 5 ∷ []
+
+abbrev pub OVER-ROWS : List ℕ
+OVER-ROWS = 2 ∷ 3 ∷ 5 ∷ []
+
+-- a refusal, or the call
+abbrev pub unless : Option ℕ → World → List ℕ → Result → Result
+unless o w out r = elim o [ none ↦ r | some n ↦ refuse w out n ]
+
+-- row 3
+abbrev pub otherSize : List ℕ → Settings → Bool
+otherSize memory s = not (eqb (length memory) (capacity s))
+
+-- what the calls but power-up are handed, held against the rows; each says which sizes, buffers and transfers are wrong
+abbrev pub rows : World → Bool → Bool → Bool → Rows
+rows w size buffer closed = record {
+  size = size;
+  unsound = unsound (w .card .core);
+  memory = otherSize (w .memory) (w .card .core .settings);
+  buffer = buffer;
+  closed = closed;
+  settings = false;
+}
+
+-- ---- sizes
+
+-- a command frame, and the room for any response
+abbrev pub FRAME : ℕ
+FRAME = 6
+
+abbrev pub ROOM : ℕ
+ROOM = 17
+
+-- an incoming block, and the room for any block that is taken
+abbrev pub blockSize : Core → ℕ
+blockSize c = BLOCK + CHECK
+
+abbrev pub blockRoom : Core → ℕ
+blockRoom c = BLOCK + CHECK
 
 -- ---- the five calls
 
@@ -165,70 +203,56 @@ fresh s = reset (record {
 })
 
 unfoldable pub start : Settings → Card
-start s = record { core = fresh s; line = record { «com_crc_error» = false } }
+start s = record { core = fresh s; line = line false }
 
--- rows 3 and 6
+-- before the first power-up there is a card of no blocks: its record is unsound, so every other call is refused
+abbrev pub NO-CARD : Settings
+NO-CARD = record {
+  blocks = 0;
+  polls = 0;
+  cid = record { mid = 0; oid = 0; pnm = 0; prv = 0; psn = 0; mdt = 0 };
+  permanent = false;
+  temporary = false;
+}
+
+abbrev pub unpowered : Card
+unpowered = start NO-CARD
+
+abbrev pub powerRefusal : World → Settings → Option ℕ
+powerRefusal w s =
+    refusal POWER-ROWS
+    (record { size = false; unsound = false; memory = otherSize (w .memory) s; buffer = false; closed = false; settings = not (allowed s) })
+
 unfoldable pub poweredUp : World → Settings → Result
-poweredUp w s =
-    unless (not (eqb (length (w .memory)) (capacity s)) gives 3 ∷ not (allowed s) gives 6 ∷ []) w []
-    (record { answer = done over; world = record { card = start s; memory = w .memory }; out = []; message = finished })
+poweredUp w s = unless (powerRefusal w s) w [] (record { answer = done over; world = world (start s) (w .memory); out = [] })
+
+abbrev pub frameRefusal : World → List ℕ → List ℕ → Option ℕ
+frameRefusal w frame out = refusal FRAME-ROWS (rows w (not (eqb (length frame) FRAME)) (ltb (length out) ROOM) false)
 
 unfoldable pub framed : World → List ℕ → List ℕ → Result
-framed w frame out =
-    unless (not (eqb (length frame) 6) gives 1 ∷ rows23 w (ltb (length out) 17 gives 4 ∷ [])) w out
-    (show w out (receive (w .card .core) frame))
+framed w frame out = unless (frameRefusal w frame out) w out (show w out (receive (w .card .core) frame))
 
--- the open read transfer, the open write transfer, and where busy over leads; none where row 5 applies
-unfoldable pub sourceOf : State → Option Source
-sourceOf (Data s) = some s
-sourceOf (Rcv s) = none
-sourceOf Idle = none
-sourceOf Ready = none
-sourceOf Ident = none
-sourceOf Stby = none
-sourceOf Tran = none
-sourceOf Prg = none
-sourceOf Dis = none
-sourceOf Ina = none
+-- what the state of the card has open
+abbrev pub opened : World → Open
+opened w = openOf (w .card .core .bus .state)
 
-unfoldable pub sinkOf : State → Option Sink
-sinkOf (Rcv s) = some s
-sinkOf (Data s) = none
-sinkOf Idle = none
-sinkOf Ready = none
-sinkOf Ident = none
-sinkOf Stby = none
-sinkOf Tran = none
-sinkOf Prg = none
-sinkOf Dis = none
-sinkOf Ina = none
-
-unfoldable pub leads : State → Option State
-leads Prg = some Tran
-leads Dis = some Stby
-leads (Data s) = none
-leads (Rcv s) = none
-leads Idle = none
-leads Ready = none
-leads Ident = none
-leads Stby = none
-leads Tran = none
-leads Ina = none
+abbrev pub blockRefusal : World → List ℕ → Option ℕ
+blockRefusal w s = refusal BLOCK-ROWS (rows w (not (eqb (length s) (blockSize (w .card .core)))) false (not (writing (opened w))))
 
 unfoldable pub given : World → List ℕ → Result
-given w s =
-    unless (not (eqb (length s) 514) gives 1 ∷ rows23 w []) w []
-    (elim (sinkOf (w .card .core .bus .state)) [ none ↦ refuse w [] 5 | some k ↦ show w [] (blockInto k (w .card .core) s) ])
+given w s = unless (blockRefusal w s) w [] (show w [] (blockInto (opened w) (w .card .core) s))
+
+abbrev pub takeRefusal : World → List ℕ → Option ℕ
+takeRefusal w out = refusal TAKE-ROWS (rows w false (ltb (length out) (blockRoom (w .card .core))) (not (reading (opened w))))
 
 unfoldable pub taken : World → List ℕ → Result
-taken w out =
-    unless (rows23 w (ltb (length out) 514 gives 4 ∷ [])) w out
-    (elim (sourceOf (w .card .core .bus .state)) [ none ↦ refuse w out 5 | some k ↦ show w out (takeFrom k (w .card .core) (w .memory)) ])
+taken w out = unless (takeRefusal w out) w out (show w out (takeFrom (opened w) (w .card .core) (w .memory)))
+
+abbrev pub overRefusal : World → Option ℕ
+overRefusal w = refusal OVER-ROWS (rows w false false (not (busy (opened w))))
 
 unfoldable pub overed : World → Result
-overed w =
-    unless (rows23 w []) w []
-    (elim (leads (w .card .core .bus .state)) [ none ↦ refuse w [] 5 | some to ↦ show w [] (overFrom to (w .card .core)) ])
+overed w = unless (overRefusal w) w [] (show w [] (overFrom (opened w) (w .card .core)))
 
 unfoldable pub step : World → Call → Result
 step w (powerUp s) = poweredUp w s
@@ -239,13 +263,3 @@ step w busyOver = overed w
 
 abbrev pub next : World → Call → World
 next w c = step w c .world
-
--- ---- what every call keeps
-
--- a sound record, and memory of block count × 512 bytes
-pub record Sound (w : World) : Type 0 where
-  pub core : unsound (w .card .core) ≡ false
-  pub memory : length (w .memory) ≡ capacity (w .card .core .settings)
-
-abbrev pub KeepsSound : Type 0
-KeepsSound = (w : World) (c : Call) → Sound w → Sound (next w c)

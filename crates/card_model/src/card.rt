@@ -1,45 +1,7 @@
 // The card record: what the card keeps between calls, a struct by value.
 use crate::settings::Settings;
+use crate::state::State;
 use reg_csd::Csd;
-
-// What a read transfer hands out. A held one is silent until it is ended.
-pub enum Source {
-    // commands 17 and 18, from memory
-    Blocks {
-        multiple: bool,
-        address: u32,
-        held: bool,
-    },
-    // command 30: the protection marks from the group of an address on
-    WriteProtect {
-        address: u32,
-    },
-    // A13, A22, A51
-    SdStatus,
-    WrittenBlocks,
-    Scr,
-}
-
-// A write transfer, of commands 24 and 25.
-pub struct Sink {
-    pub multiple: bool,
-    pub address: u32,
-    pub held: bool,
-}
-
-// The bus state, with the transfer that it stands for.
-pub enum State {
-    Idle,
-    Ready,
-    Ident,
-    Stby,
-    Tran,
-    Data(Source),
-    Rcv(Sink),
-    Prg,
-    Dis,
-    Ina,
-}
 
 pub struct Bus {
     pub state: State,
@@ -53,14 +15,14 @@ pub struct Bus {
 }
 
 // An address that 32 or 33 gave.
-pub enum Mark {
+pub enum EraseMark {
     Unset,
     At(u32),
 }
 
-pub struct Erase {
-    pub first: Mark,
-    pub second: Mark,
+pub struct EraseMarks {
+    pub first: EraseMark,
+    pub second: EraseMark,
 }
 
 // The status bits that the card keeps, but COM_CRC_ERROR.
@@ -82,7 +44,7 @@ pub struct Core {
     pub csd: Csd,
     pub bus: Bus,
     pub kept: Kept,
-    pub erase: Erase,
+    pub erase: EraseMarks,
     // block length, set by 16
     pub length: u16,
     // blocks stored since a write command last reached rcv, for A22

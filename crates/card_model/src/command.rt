@@ -1,4 +1,4 @@
-// The commands of the card, by the standard's names; those from SdStatus on are application commands.
+// The commands of the card, by the standard's names, in the order of 01's table.
 pub enum Command {
     GoIdleState,
     AllSendCid,
@@ -10,25 +10,43 @@ pub enum Command {
     SendCid,
     StopTransmission,
     SendStatus,
+    AppCmd,
     GoInactiveState,
     SetBlocklen,
     ReadSingleBlock,
     ReadMultipleBlock,
+    SendWriteProt,
     WriteBlock,
     WriteMultipleBlock,
     SetWriteProt,
     ClrWriteProt,
-    SendWriteProt,
+    Erase,
     EraseWrBlkStart,
     EraseWrBlkEnd,
-    Erase,
-    AppCmd,
     SdStatus,
     SendNumWrBlocks,
-    SetWrBlkEraseCount,
-    SdSendOpCond,
-    SetClrCardDetect,
     SendScr,
+    SetWrBlkEraseCount,
+    SetClrCardDetect,
+    SdSendOpCond,
     // no row of the table
     Unknown,
+}
+
+// Columns of the table.
+
+// A plain row; 55; a row that an index has after 55.
+pub enum Kind {
+    Plain,
+    AppCmd,
+    Application,
+}
+
+// What the upper half of the argument is: no RCA; the RCA of the card that is meant; for the two rows of 7 the card's own RCA,
+// and another.
+pub enum Rca {
+    Unused,
+    Addressed,
+    Own,
+    Other,
 }

@@ -1,22 +1,29 @@
 // Power up, and busy over. The record by value and back; memory is lent.
 ghost use mathlib.Core.Path.{_≡_};
 ghost use mathlib.Core.List.{[]};
-ghost use Rattle.card_model.specs.Step.{fresh, start, powerUp, busyOver};
+ghost use Rattle.card_model.specs.Step.{fresh, start, unpowered, powerUp, busyOver};
 ghost use Rattle.card_call.specs.Seen.{returned, stepped};
 use card_call::Stepped;
 use card_call::answered;
 use card_call::refused;
 use card_model::answer::Answer;
+use card_model::answer::Rows;
 use card_model::card::Bus;
 use card_model::card::Card;
 use card_model::card::Core;
-use card_model::card::Erase;
 use card_model::card::Line;
-use card_model::card::Mark;
-use card_model::card::State;
 use card_model::settings::Settings;
-use card_open::Opening;
+use card_model::state::Open;
+use card_model::state::State;
+use card_record::erase::no_erase;
 use card_record::with_state;
+use card_refuse::refusal;
+use card_refuse::rows;
+use card_settings::BLOCK;
+use card_settings::allowed;
+use card_settings::capacity;
+use card_status::no_bits;
+use reg_cid::cid::Cid;
 
 // What commands see of it.
 fn fresh(settings: Settings) -> Core
@@ -29,25 +36,20 @@ fn fresh(settings: Settings) -> Core
         polls: settings.polls,
         app: false,
     };
-    let erase = Erase {
-        first: Mark::Unset,
-        second: Mark::Unset,
-    };
-    let marks: [u8; 256] = [0; 256];
     Core {
         settings: settings,
         csd: card_settings::csd_of(settings),
         bus: bus,
-        kept: card_status::no_bits(),
-        erase: erase,
-        length: 512,
+        kept: no_bits(),
+        erase: no_erase(),
+        length: BLOCK as u16,
         written: 0,
-        marks: marks,
+        marks: [0u8; 256],
     }
 }
 
 // The record that a history starts with.
-pub fn start(settings: Settings) -> Card
+fn start(settings: Settings) -> Card
     ensures { λ r. ⌜ r ≡ start settings ⌝ }
 {
     Card {
@@ -58,15 +60,42 @@ pub fn start(settings: Settings) -> Card
     }
 }
 
+// The card before its first power-up, of no blocks: every other call is refused.
+pub fn unpowered() -> Card
+    ensures { λ r. ⌜ r ≡ unpowered ⌝ }
+{
+    let cid = Cid {
+        mid: 0,
+        oid: 0,
+        pnm: 0,
+        prv: 0,
+        psn: 0,
+        mdt: 0,
+    };
+    start(Settings {
+        blocks: 0,
+        polls: 0,
+        cid: cid,
+        permanent: false,
+        temporary: false,
+    })
+}
+
 // Power up. The record that was there stays where the call is refused.
 pub fn power_up(card: Card, settings: Settings, memory: &[u8]) -> Stepped
     ensures { λ r. ⌜ returned r (now (memory .entry)) [] ≡ stepped card (now (memory .entry)) (powerUp settings) ⌝ }
 {
-    if memory.len() as u64 != settings.blocks as u64 * 512 {
-        return refused(card, 3);
-    }
-    if !card_settings::allowed(settings) {
-        return refused(card, 6);
+    let r = Rows {
+        size: false,
+        unsound: false,
+        memory: memory.len() as u64 != capacity(settings.blocks),
+        buffer: false,
+        closed: false,
+        settings: !allowed(settings),
+    };
+    let n = refusal(&[3, 6], r);
+    if n != 0 {
+        return refused(card, n);
     }
     Stepped {
         answer: Answer::Over,
@@ -79,19 +108,18 @@ pub fn busy_over(card: Card, memory: &[u8]) -> Stepped
     ensures { λ r. ⌜ returned r (now (memory .entry)) [] ≡ stepped card (now (memory .entry)) busyOver ⌝ }
 {
     let c = card.core;
-    if card_sound::unsound(c) {
-        return refused(card, 2);
-    }
-    if memory.len() as u64 != c.settings.blocks as u64 * 512 {
-        return refused(card, 3);
-    }
     let bus = c.bus;
     let state = bus.state;
-    let open = card_open::open(state);
+    let open = card_state::open(state);
+    let r = rows(c, memory.len(), false, false, !card_state::busy(open));
+    let n = refusal(&[2, 3, 5], r);
+    if n != 0 {
+        return refused(card, n);
+    }
     match open {
-        Opening::Busy(next) => { answered(card, with_state(c, next), Answer::Over) }
-        Opening::Read(_) => refused(card, 5),
-        Opening::Write(_) => refused(card, 5),
-        Opening::Nothing => refused(card, 5),
+        Open::Busy(next) => answered(card, with_state(c, next), Answer::Over),
+        Open::Nothing => answered(card, c, Answer::Silence),
+        Open::Read(_) => answered(card, c, Answer::Silence),
+        Open::Write(_) => answered(card, c, Answer::Silence),
     }
 }

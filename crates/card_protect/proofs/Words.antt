@@ -12,10 +12,7 @@ use lib.Seq.{append-snoc}
 use Rattle.crc.specs.Bits.{bits, digit}
 use Rattle.crc.proofs.Bits.{bits-cong, bits-join, digit-lt}
 use Rattle.codec.proofs.Masks.{shifted}
-use Rattle.card_model.specs.declared.card.Core.{Core}
-use Rattle.card_model.specs.Settings.{groups}
-use Rattle.card_model.specs.Checks.{marked}
-use Rattle.card_model.specs.Data.{markBits}
+use Rattle.card_model.specs.Protect.{marked, markBits}
 
 one-bit : (b : Bool) → bits 1 (digit b) ≡ b ∷ []
 unfolding bits
@@ -38,24 +35,24 @@ appended-one j word h =
 pub appended-zero : (j word : ℕ) → j + 1 ≤ 32 → bits (j + 1) (word * 2 ^ 1 % 2 ^ 32) ≡ bits j word ++ (false ∷ [])
 appended-zero j word h = ap (bits (j + 1)) (shifted word 31 1 ∙ omega arith) ∙ appended j word false h
 
-pub word-more : (c : Core) (g k word next : ℕ) (b : Bool) (all : List Bool) → 0 < k → k ≤ 32
+pub word-more : (n : ℕ) (marks : List ℕ) (g k word next : ℕ) (b : Bool) (all : List Bool) → 0 < k → k ≤ 32
     → ((j : ℕ) → j + 1 ≤ 32 → bits (j + 1) next ≡ bits j word ++ (b ∷ []))
-    → b ≡ (ltb (g + (k - 1)) (groups (c .settings)) && marked (c .marks) (g + (k - 1)))
-    → bits (32 - k) word ++ markBits c g k ≡ all
-    → bits (32 - (k - 1)) next ++ markBits c g (k - 1) ≡ all
+    → b ≡ (ltb (g + (k - 1)) n && marked marks (g + (k - 1)))
+    → bits (32 - k) word ++ markBits n marks g k ≡ all
+    → bits (32 - (k - 1)) next ++ markBits n marks g (k - 1) ≡ all
 unfolding markBits
-word-more c g zero word next b all lo hi long e inv = absurd (omega arith)
-word-more c g (suc k) word next b all lo hi long e inv =
+word-more n marks g zero word next b all lo hi long e inv = absurd (omega arith)
+word-more n marks g (suc k) word next b all lo hi long e inv =
     let less : suc k - 1 ≡ k = omega arith in
     let more : 32 - (suc k - 1) ≡ 32 - suc k + 1 = omega arith in
-    let one : b ≡ (ltb (g + k) (groups (c .settings)) && marked (c .marks) (g + k)) =
-    e ∙ ap (λ (i : ℕ). ltb (g + i) (groups (c .settings)) && marked (c .marks) (g + i)) less in
-    ap₂ (λ (x y : List Bool). x ++ y) (ap (λ (i : ℕ). bits i next) more ∙ long (32 - suc k) (omega arith)) (ap (markBits c g) less)
-    ∙ append-snoc (bits (32 - suc k) word) b (markBits c g k)
-    ∙ ap (λ (x : Bool). bits (32 - suc k) word ++ (x ∷ markBits c g k)) one
+    let one : b ≡ (ltb (g + k) n && marked marks (g + k)) =
+    e ∙ ap (λ (i : ℕ). ltb (g + i) n && marked marks (g + i)) less in
+    ap₂ (λ (x y : List Bool). x ++ y) (ap (λ (i : ℕ). bits i next) more ∙ long (32 - suc k) (omega arith)) (ap (markBits n marks g) less)
+    ∙ append-snoc (bits (32 - suc k) word) b (markBits n marks g k)
+    ∙ ap (λ (x : Bool). bits (32 - suc k) word ++ (x ∷ markBits n marks g k)) one
     ∙ inv
 
-pub word-all : (c : Core) (g k word : ℕ) (all : List Bool) → k ≤ 0 → bits (32 - k) word ++ markBits c g k ≡ all → bits 32 word ≡ all
+pub word-all : (n : ℕ) (marks : List ℕ) (g k word : ℕ) (all : List Bool) → k ≤ 0 → bits (32 - k) word ++ markBits n marks g k ≡ all → bits 32 word ≡ all
 unfolding markBits
-word-all c g zero word all h inv = sym (append-nil (bits 32 word)) ∙ inv
-word-all c g (suc k) word all h inv = absurd (omega arith)
+word-all n marks g zero word all h inv = sym (append-nil (bits 32 word)) ∙ inv
+word-all n marks g (suc k) word all h inv = absurd (omega arith)

@@ -1,24 +1,15 @@
-// Protection of blocks: groups of 32 with a mark each, eight marks to a byte, the lowest first; and the protected card.
+// Protection of blocks: groups with a mark each, eight marks to a byte, the lowest first; and the protected card.
 ghost use mathlib.Core.Path.{_≡_};
-ghost use mathlib.Core.Bool.{cond, _||_, _&&_};
+ghost use mathlib.Core.Bool.{_||_, _&&_};
 ghost use mathlib.Core.List.{[], _∷_, _++_};
-ghost use Prim.Native.Nat.{ℕ, _+_, _*_, _^_, _<_, _≤_};
-ghost use lib.Dec.{leb, ltb};
-ghost use lib.ListN.{length, replicate};
+ghost use Prim.Native.Nat.{ℕ, _+_, _-_, _*_, _/_, _<_, _≤_};
+ghost use lib.Dec.{ltb};
 ghost use Rattle.crc.specs.Bits.{bit, bits};
-ghost use Rattle.card_model.specs.Checks.{marked, putBit, mark, guarded, groupOf, protectedCard};
-ghost use Rattle.card_model.specs.Execute.{anyGuarded};
-ghost use Rattle.card_model.specs.Data.{markBits};
-ghost use Rattle.card_model.specs.Settings.{groups};
-ghost use Rattle.card_model.specs.Step.{swept};
-ghost use Rattle.card_protect.specs.Sweep.{sweptOne};
-use card_model::card::Core;
-
-const BYTES: usize = 256;
-
-const BLOCK: u64 = 512;
-
-const GROUP: u64 = 32;
+ghost use Rattle.card_model.specs.Settings.{BLOCK, GROUP};
+ghost use Rattle.card_model.specs.Protect.{groupOf, marked, putBit, mark, guarded, anyGuarded, markBits};
+use card_settings::BLOCK;
+use card_settings::GROUP;
+use card_settings::groups;
 
 fn bit(byte: u8, k: u32) -> bool
     requires { ⌜ k < 8 ⌝ }
@@ -38,66 +29,76 @@ fn put_bit(value: bool, k: u32, byte: u8) -> u8
     byte ^ (1 << k)
 }
 
-// The mark of a group; groups from 2,048 on have none.
-pub fn marked(marks: [u8; 256], group: u32) -> bool
-    ensures { λ r. ⌜ r ≡ marked marks group ⌝ }
+// The permanent or temporary bit protects every block.
+pub fn whole(permanent: bool, temporary: bool) -> bool
+    ensures { λ r. ⌜ r ≡ (permanent || temporary) ⌝ }
+{
+    permanent | temporary
+}
+
+// The group of a byte address.
+pub fn group_of(address: u32) -> u32
+    ensures { λ r. ⌜ r ≡ groupOf address ⌝ }
+{
+    address / (GROUP * BLOCK)
+}
+
+// A group behind the marks has none.
+fn marked_group(marks: &[u8], group: u64) -> bool
+    ensures { λ r. ⌜ r ≡ marked (now (marks .entry)) group ⌝ }
 {
     let at = (group / 8) as usize;
-    if at >= BYTES {
+    if at >= marks.len() {
         return false;
     }
-    bit(marks[at], group % 8)
+    bit(marks[at], (group % 8) as u32)
 }
 
-// The marks with that of a group set or cleared.
-pub fn mark(value: bool, marks: [u8; 256], group: u32) -> [u8; 256]
-    ensures { λ r. ⌜ r ≡ mark value marks group ⌝ }
+pub fn marked(marks: &[u8], group: u32) -> bool
+    ensures { λ r. ⌜ r ≡ marked (now (marks .entry)) group ⌝ }
 {
-    let mut next = marks;
+    marked_group(marks, group as u64)
+}
+
+// Sets or clears the mark of a group.
+pub fn mark(value: bool, marks: &mut [u8], group: u32)
+    ensures { λ _. ⌜ now (marks .exit) ≡ mark value (now (marks .entry)) group ⌝ }
+{
     let at = (group / 8) as usize;
-    if at >= BYTES {
-        return next;
+    if at >= marks.len() {
+        return;
     }
-    next[at] = put_bit(value, group % 8, next[at]);
-    next
+    marks[at] = put_bit(value, group % 8, marks[at]);
 }
 
-fn guarded_group(c: Core, group: u32) -> bool
-    ensures { λ r. ⌜ r ≡ (protectedCard (c .settings) || marked (c .marks) group) ⌝ }
+// The block at a byte address is protected, with the whole card or by its group.
+pub fn guarded(all: bool, marks: &[u8], address: u32) -> bool
+    ensures { λ r. ⌜ r ≡ guarded all (now (marks .entry)) address ⌝ }
 {
-    if c.settings.permanent {
+    if all {
         return true;
     }
-    if c.settings.temporary {
-        return true;
-    }
-    let marks = c.marks;
-    marked(marks, group)
-}
-
-// The block at a byte address is protected, by its group or with the whole card.
-pub fn guarded(c: Core, address: u32) -> bool
-    ensures { λ r. ⌜ r ≡ guarded c address ⌝ }
-{
-    guarded_group(c, address / 16384)
+    marked(marks, group_of(address))
 }
 
 // The same by the number of the block.
-fn guarded_block(c: Core, block: u64) -> bool
-    requires { ⌜ block < 2 ^ 33 ⌝ }
-    ensures { λ r. ⌜ r ≡ guarded c (block * 512) ⌝ }
+pub fn guarded_block(all: bool, marks: &[u8], block: u64) -> bool
+    ensures { λ r. ⌜ r ≡ guarded all (now (marks .entry)) (block * BLOCK) ⌝ }
 {
-    guarded_group(c, (block / GROUP) as u32)
+    if all {
+        return true;
+    }
+    marked_group(marks, block / GROUP as u64)
 }
 
-// Some of `count` blocks from a number on is protected.
-pub fn any_guarded(c: Core, first: u32, count: u32) -> bool
-    ensures { λ r. ⌜ r ≡ anyGuarded c first count ⌝ }
+// Some of so many blocks from a number on is protected.
+pub fn any_guarded(all: bool, marks: &[u8], first: u32, count: u32) -> bool
+    ensures { λ r. ⌜ r ≡ anyGuarded all (now (marks .entry)) first count ⌝ }
 {
     let mut block: u64 = first as u64;
     let end: u64 = block + count as u64;
     while block < end {
-        if guarded_block(c, block) {
+        if guarded_block(all, marks, block) {
             return true;
         }
         block += 1;
@@ -105,16 +106,14 @@ pub fn any_guarded(c: Core, first: u32, count: u32) -> bool
     false
 }
 
-// A group of the card with its mark set.
-fn shown(c: Core, group: u32) -> bool
-    ensures { λ r. ⌜ r ≡ (ltb group (groups (c .settings)) && marked (c .marks) group) ⌝ }
+// One of so many groups, with its mark set.
+fn shown(count: u64, marks: &[u8], group: u64) -> bool
+    ensures { λ r. ⌜ r ≡ (ltb group count && marked (now (marks .entry)) group) ⌝ }
 {
-    let groups = (c.settings.blocks as u64 + (GROUP - 1)) / GROUP;
-    if (group as u64) >= groups {
+    if group >= count {
         return false;
     }
-    let marks = c.marks;
-    marked(marks, group)
+    marked_group(marks, group)
 }
 
 // A word with one bit more behind it.
@@ -128,55 +127,16 @@ fn append(word: u32, value: bool) -> u32
 }
 
 // The marks of 32 groups from that of an address on, the lowest bit first; groups past the end read 0.
-pub fn mark_word(c: Core, address: u32) -> u32
-    ensures { λ r. ⌜ bits 32 r ≡ markBits c (groupOf address) 32 ⌝ }
+pub fn mark_word(blocks: u32, marks: &[u8], address: u32) -> u32
+    ensures { λ r. ⌜ bits 32 r ≡ markBits ((blocks + (GROUP - 1)) / GROUP) (now (marks .entry)) (groupOf address) 32 ⌝ }
 {
-    let group: u32 = address / 16384;
+    let count = groups(blocks);
+    let group = group_of(address) as u64;
     let mut word: u32 = 0;
-    let mut k: u32 = 32;
+    let mut k: u64 = 32;
     while k > 0 {
         k -= 1;
-        word = append(word, shown(c, group + k));
+        word = append(word, shown(count, marks, group + k));
     }
     word
-}
-
-// Zeroes bytes, unless they are to be kept.
-fn zero(keep: bool, part: &mut [u8])
-    ensures { λ _. ⌜ now (part .exit) ≡ cond keep (now (part .entry)) (replicate (length (now (part .entry))) 0) ⌝ }
-{
-    if keep {
-        return;
-    }
-    let mut i: usize = 0;
-    while i < part.len() {
-        part[i] = 0;
-        i += 1;
-    }
-}
-
-fn sweep_block(c: Core, memory: &mut [u8], block: u64)
-    requires { ⌜ (block < 2 ^ 33) × ((block + 1) * 512 ≤ length (now memory)) ⌝ }
-    ensures { λ _. ⌜ now (memory .exit) ≡ sweptOne c block (now (memory .entry)) ⌝ }
-{
-    let start = (block * BLOCK) as usize;
-    let end = start + BLOCK as usize;
-    zero(guarded_block(c, block), &mut memory[start..end]);
-}
-
-// Zeroes `count` blocks from a number on, but for the protected ones; where memory ends before them, nothing.
-pub fn sweep(c: Core, memory: &mut [u8], first: u32, count: u32)
-    ensures { λ _.
-        ⌜ now (memory .exit)
-        ≡ cond (leb ((first + count) * 512) (length (now (memory .entry)))) (swept c first count (now (memory .entry))) (now (memory .entry)) ⌝ }
-{
-    let mut block: u64 = first as u64;
-    let behind: u64 = block + count as u64;
-    if (memory.len() as u64) < behind * BLOCK {
-        return;
-    }
-    while block < behind {
-        sweep_block(c, memory, block);
-        block += 1;
-    }
 }

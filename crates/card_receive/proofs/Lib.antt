@@ -1,3 +1,2 @@
 -- Laws for the proofs of this crate.
-pub mod Rows
 pub mod Received

@@ -1,15 +1,21 @@
 // The record's parts, one update for each.
+pub mod erase;
+
 ghost use mathlib.Core.Path.{_≡_};
-ghost use Rattle.card_model.specs.Record.{withBus, withState, withApp, withRca, withPolls, withKept, withErase, withLength, withWritten, withMarks, noErase};
+ghost use Rattle.card_model.specs.Record.{withBus, withState, withApp, withRca, withPolls, withKept, withErase, withLength, withWritten, withMarks};
 ghost use Rattle.card_model.specs.Execute.{raise, reset, dropErase};
 use card_model::card::Bus;
 use card_model::card::Core;
-use card_model::card::Erase;
+use card_model::card::EraseMarks;
 use card_model::card::Kept;
-use card_model::card::Mark;
-use card_model::card::State;
+use card_model::state::State;
 use card_status::join;
 use card_status::no_bits;
+use card_status::only;
+use erase::no_erase;
+
+// The block length of command 0.
+const BLOCK: u16 = 512;
 
 pub fn with_bus(c: Core, bus: Bus) -> Core
     ensures { λ r. ⌜ r ≡ withBus c bus ⌝ }
@@ -27,7 +33,7 @@ pub fn with_kept(c: Core, kept: Kept) -> Core
     next
 }
 
-pub fn with_erase(c: Core, erase: Erase) -> Core
+pub fn with_erase(c: Core, erase: EraseMarks) -> Core
     ensures { λ r. ⌜ r ≡ withErase c erase ⌝ }
 {
     let mut next = c;
@@ -99,27 +105,19 @@ pub fn with_polls(c: Core, polls: u8) -> Core
     with_bus(c, bus)
 }
 
-pub fn raise(c: Core, kept: Kept) -> Core
-    ensures { λ r. ⌜ r ≡ raise c kept ⌝ }
+// A status bit is set, by its number.
+pub fn raise(c: Core, n: u8) -> Core
+    ensures { λ r. ⌜ r ≡ raise c n ⌝ }
 {
     let held = c.kept;
-    with_kept(c, join(held, kept))
+    with_kept(c, join(held, only(n)))
 }
 
-fn no_erase() -> Erase
-    ensures { λ r. ⌜ r ≡ noErase ⌝ }
+// The erase marks go.
+pub fn drop_erase(c: Core) -> Core
+    ensures { λ r. ⌜ r ≡ dropErase c ⌝ }
 {
-    Erase {
-        first: Mark::Unset,
-        second: Mark::Unset,
-    }
-}
-
-// The erase marks go, and a status bit is set.
-pub fn drop_erase(c: Core, kept: Kept) -> Core
-    ensures { λ r. ⌜ r ≡ dropErase c kept ⌝ }
-{
-    with_erase(raise(c, kept), no_erase())
+    with_erase(c, no_erase())
 }
 
 // Command 0: all but the settings, the last published address and the marks.
@@ -134,7 +132,7 @@ pub fn reset(c: Core) -> Core
         app: false,
     };
     let mut next = with_erase(with_kept(with_bus(c, bus), no_bits()), no_erase());
-    next.length = 512;
+    next.length = BLOCK;
     next.written = 0;
     next
 }

@@ -5,7 +5,7 @@ use mathlib.Core.List.{List, [], _∷_, _++_}
 use Prim.Native.Nat.{ℕ, _/_, _%_, _^_, _<_, _≤_}
 use native.Mathlib.Nat.{mod-mod}
 use native.Mathlib.Omega.{arith}
-use borrow.Author.Tests.{le-ltb, lt-ltb}
+use borrow.Author.Tests.{eq-eqb, le-ltb, lt-ltb}
 use lib.Dec.{eqb}
 use lib.ListN.{length, drop}
 use lib.Pow.{mod-mod-pow}
@@ -15,9 +15,8 @@ use Rattle.codec.specs.declared.Encoded.{Encoded}
 use Rattle.codec.specs.Answer.{Encoding, encoding, encoded, emit, done}
 use Rattle.codec.specs.Layout.{write, fits}
 use Rattle.codec.specs.Format.{Format, encode, image, ended, crc7From}
-use Rattle.wire_response.specs.Response.{r1, r2, r3, r6, r7}
+use Rattle.wire_response.specs.Response.{r1, r2Bytes, encodeR2, r3, r6, r7}
 use Rattle.wire_response.specs.Status.{shortStatus}
-use Rattle.wire_response.proofs.Registers.{fits-bytes}
 use Rattle.card_model.specs.declared.answer.Answer.{Answer}
 use Rattle.card_model.specs.Frame as Frame
 use Rattle.card_model.specs.Step as Step
@@ -31,15 +30,18 @@ sends f vs s out after e a h room fit im said =
     let g : encoding e after ≡ emit s out = h ∙ rw (le-ltb (length out) 17 room, fit) (ap (λ (x : List ℕ). emit x out) im) in
     record { count = said ∙ ap (λ (x : Encoding). carried (x .answer)) g; buffer = ap (λ (x : Encoding). x .buffer) g }
 
+pub sends-r2 : (register out after : List ℕ) (e : Encoded) (a : Answer) → encoding e after ≡ encodeR2 register out → length register ≡ 16
+    → 17 ≤ length out → answer a ≡ carried (encoded e) → Sends (r2Bytes register) out after a
+unfolding encodeR2
+sends-r2 register out after e a h l room said =
+    let g : encoding e after ≡ emit (r2Bytes register) out = h ∙ simp (eq-eqb (length register) 16 l, le-ltb (length out) 17 room) in
+    record { count = said ∙ ap (λ (x : Encoding). carried (x .answer)) g; buffer = ap (λ (x : Encoding). x .buffer) g }
+
 -- ---- fields that fit
 
 pub fits-r1 : (i w : ℕ) → i < 64 → w < 2 ^ 32 → fits (r1 i .slots) (w ∷ []) ≡ true
 unfolding fits
 fits-r1 i w h k = simp (lt-ltb i 64 h, lt-ltb w (2 ^ 32) k)
-
-pub fits-r2 : (vs : List ℕ) → length vs ≡ 15 → Bytes vs → fits (r2 .slots) vs ≡ true
-unfolding fits
-fits-r2 vs l b = fits-bytes 15 vs l b
 
 pub fits-r3 : (w : ℕ) → w < 2 ^ 32 → fits (r3 .slots) (w ∷ []) ≡ true
 unfolding fits

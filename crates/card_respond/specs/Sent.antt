@@ -1,30 +1,35 @@
 -- A message on the line: what it stands for in the model, and what an encoder's answer is there.
+use mathlib.Core.Path.{_≡_}
 use mathlib.Core.Bool.{Bool, cond}
 use mathlib.Core.List.{List, [], _∷_, _++_}
-use mathlib.Core.Path.{_≡_}
 use Prim.Native.Nat.{ℕ}
 use lib.Dec.{ltb}
 use lib.ListN.{length, drop}
 use Rattle.codec.specs.Answer.{Outcome, done, refused, BUFFER}
 use Rattle.codec.specs.Format.{image}
-use Rattle.wire_response.specs.Response as Response
+use Rattle.wire_response.specs.Response as Wire
 use Rattle.card_model.specs.declared.answer.Answer.{Answer}
 use Rattle.card_model.specs.declared.card.Core.{Core}
-use Rattle.card_model.specs.Settings.{cidContent, csdContent}
+use Rattle.card_model.specs.declared.done.Response.{Response}
+use Rattle.card_model.specs.declared.done.Response.the-variants.{Nothing, R1, R6, Cid, Csd, R3, R7}
+use Rattle.card_model.specs.Settings.{cidBytes, csdBytes}
 use Rattle.card_model.specs.Frame as Frame
 use Rattle.card_model.specs.Step as Step
-use Rattle.card_model.specs.Step.{Reply, answer, replyOf, wire}
+use Rattle.card_model.specs.Step.{Reply, answer, wire, replyOf, ROOM}
 use Rattle.card_respond.specs.declared.Message.{Message}
 
--- a message, with the registers of the record that the frame came to
+-- a response as the model's message, with the address and the registers of the record that the frame came to
+abbrev pub messageBy : Core → ℕ → ℕ → Response → Frame.Message
+messageBy c index word Nothing = Frame.silence
+messageBy c index word R1 = Frame.r1 index word
+messageBy c index word R6 = Frame.r6 (c .bus .rca) word
+messageBy c index word Cid = Frame.plain (Wire.r2Bytes (cidBytes (c .settings)))
+messageBy c index word Csd = Frame.plain (Wire.r2Bytes (csdBytes (c .csd)))
+messageBy c index word (R3 ocr) = Frame.plain (image Wire.r3 (ocr ∷ []))
+messageBy c index word (R7 voltage pattern) = Frame.plain (image Wire.r7 (voltage ∷ pattern ∷ []))
+
 abbrev pub message : Core → Message → Frame.Message
-message c Message.Silence = Frame.silence
-message c (Message.R1 index word) = Frame.r1 index word
-message c (Message.R6 rca word) = Frame.r6 rca word
-message c Message.Cid = Frame.plain (image Response.r2 (cidContent (c .settings)))
-message c Message.Csd = Frame.plain (image Response.r2 (csdContent (c .csd)))
-message c (Message.R3 ocr) = Frame.plain (image Response.r3 (ocr ∷ []))
-message c (Message.R7 voltage pattern) = Frame.plain (image Response.r7 (voltage ∷ pattern ∷ []))
+message c m = messageBy c (m .index) (m .word) (m .response)
 
 abbrev pub carried : Outcome ℕ → Outcome Reply
 carried (done n) = done (Step.sent n)
@@ -46,5 +51,5 @@ responded a out = record { answer = a; out = out }
 -- what the step shows of a message, and refusal 4 where the buffer is too small for any
 unfoldable pub onLine : Bool → Frame.Message → List ℕ → Responded
 onLine crc m out =
-    cond (ltb (length out) 17) (responded (refused BUFFER) out)
+    cond (ltb (length out) ROOM) (responded (refused BUFFER) out)
     (responded (done (replyOf crc m)) (wire crc m ++ drop (length (wire crc m)) out))

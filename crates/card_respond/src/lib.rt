@@ -5,13 +5,14 @@ ghost use Prim.Native.Nat.{_%_, _^_, _≤_};
 ghost use lib.ListN.{length, drop};
 ghost use Rattle.codec.specs.Answer.{encoded, done};
 ghost use Rattle.codec.specs.Format.{image};
-ghost use Rattle.wire_response.specs.Response.{r1, r2, r3, r6, r7};
+ghost use Rattle.wire_response.specs.Response.{r1, r2Bytes, r3, r6, r7};
 ghost use Rattle.wire_response.specs.Status.{shortStatus};
 ghost use Rattle.card_model.specs.Status.{shown};
 ghost use Rattle.card_model.specs.Step.{answer, wire, replyOf};
 ghost use Rattle.card_respond.specs.Sent.{message, carried, Sends, responded, onLine};
 use card_model::answer::Answer;
 use card_model::card::Core;
+use card_model::done::Response;
 use codec::Encoded;
 use wire_response::encode_r1;
 use wire_response::encode_r2;
@@ -20,15 +21,11 @@ use wire_response::encode_r6;
 use wire_response::encode_r7;
 use wire_response::status::short_status;
 
-// What is sent; a word lacks COM_CRC_ERROR.
-pub enum Message {
-    Silence,
-    R1 { index: u8, word: u32 },
-    R6 { rca: u16, word: u32 },
-    Cid,
-    Csd,
-    R3(u32),
-    R7 { voltage: u8, pattern: u8 },
+// The response of a command, with the index that R1 shows and the status of R1 and R6, which lacks COM_CRC_ERROR.
+pub struct Message {
+    pub response: Response,
+    pub index: u8,
+    pub word: u32,
 }
 
 fn sent(e: Encoded) -> Answer
@@ -64,11 +61,12 @@ fn send_r6(rca: u16, word: u32, crc: bool, out: &mut [u8]) -> Answer
     sent(encode_r6(rca, short_status(shown(crc, word)), out))
 }
 
-fn send_r2(content: [u8; 15], out: &mut [u8]) -> Answer
+// R2: the sixteen bytes of a register, with its own check.
+fn send_r2(register: [u8; 16], out: &mut [u8]) -> Answer
     requires { ⌜ 17 ≤ length (now out) ⌝ }
-    ensures { λ r. ⌜ Sends (image r2 content) (now (out .entry)) (now (out .exit)) r ⌝ }
+    ensures { λ r. ⌜ Sends (r2Bytes register) (now (out .entry)) (now (out .exit)) r ⌝ }
 {
-    sent(encode_r2(content, out))
+    sent(encode_r2(&register, out))
 }
 
 fn send_r3(ocr: u32, out: &mut [u8]) -> Answer
@@ -85,27 +83,29 @@ fn send_r7(voltage: u8, pattern: u8, out: &mut [u8]) -> Answer
     sent(encode_r7(voltage & 15, pattern, out))
 }
 
+// R6 shows the RCA of the record, R2 its registers.
 fn emit(m: Message, c: Core, crc: bool, out: &mut [u8]) -> Answer
     requires { ⌜ 17 ≤ length (now out) ⌝ }
     ensures { λ r.
         ⌜ (answer r ≡ done (replyOf crc (message c m)))
         × (now (out .exit) ≡ wire crc (message c m) ++ drop (length (wire crc (message c m))) (now (out .entry))) ⌝ }
 {
-    match m {
-        Message::Silence => Answer::Silence,
-        Message::R1 { index, word } => send_r1(index, word, crc, out),
-        Message::R6 { rca, word } => send_r6(rca, word, crc, out),
-        Message::Cid => {
+    let response = m.response;
+    match response {
+        Response::Nothing => Answer::Silence,
+        Response::R1 => send_r1(m.index, m.word, crc, out),
+        Response::R6 => send_r6(c.bus.rca, m.word, crc, out),
+        Response::Cid => {
             let settings = c.settings;
             let cid = settings.cid;
-            send_r2(reg_cid::cid::fifteen(cid), out)
+            send_r2(reg_cid::cid::sixteen(cid), out)
         }
-        Message::Csd => {
+        Response::Csd => {
             let own = c.csd;
-            send_r2(reg_csd::fifteen(own), out)
+            send_r2(reg_csd::sixteen(own), out)
         }
-        Message::R3(ocr) => send_r3(ocr, out),
-        Message::R7 { voltage, pattern } => send_r7(voltage, pattern, out),
+        Response::R3(ocr) => send_r3(ocr, out),
+        Response::R7 { voltage, pattern } => send_r7(voltage, pattern, out),
     }
 }
 
@@ -114,7 +114,7 @@ pub fn respond(m: Message, c: Core, crc: bool, out: &mut [u8]) -> Answer
     ensures { λ r. ⌜ responded (answer r) (now (out .exit)) ≡ onLine crc (message c m) (now (out .entry)) ⌝ }
 {
     if out.len() < 17 {
-        return Answer::Refused(4);
+        return Answer::Refused(codec::BUFFER);
     }
     emit(m, c, crc, out)
 }

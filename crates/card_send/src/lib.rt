@@ -1,32 +1,45 @@
-// A payload straight into the output buffer, with its check, as the answer of a call.
+// The answers of a take: a payload straight into the output buffer with its check, or a transfer that is held.
 ghost use mathlib.Core.Path.{_≡_};
 ghost use mathlib.Core.List.{List};
 ghost use Prim.Native.Nat.{ℕ};
+ghost use lib.ListN.{replicate};
 ghost use Rattle.wire_packet.specs.Packet.{encodePacket};
-ghost use Rattle.card_model.specs.declared.card.State.the-variants.{Tran};
+ghost use Rattle.card_model.specs.declared.state.State.the-variants.{Tran};
+ghost use Rattle.card_model.specs.Settings.{scrBytes};
 ghost use Rattle.card_model.specs.Record.{withState};
-ghost use Rattle.card_model.specs.Data.{word32};
-ghost use Rattle.card_call.specs.Seen.{returned};
-ghost use Rattle.card_send.specs.Sending.{sending};
+ghost use Rattle.card_model.specs.Data.{word32, markBytes, holdRead};
+ghost use Rattle.card_call.specs.Seen.{returned, turned};
+ghost use Rattle.card_send.specs.Sending.{reported, sending};
 use card_call::Stepped;
 use card_call::answered;
 use card_model::answer::Answer;
 use card_model::card::Card;
-use card_model::card::Core;
-use card_model::card::State;
+use card_model::state::Source;
+use card_model::state::State;
+use card_protect::mark_word;
+use card_record::raise;
 use card_record::with_state;
 use codec::Encoded;
 
-pub fn send(card: Card, core: Core, payload: &[u8], out: &mut [u8]) -> Stepped
+fn report(sent: Encoded) -> Answer
+    ensures { λ r. ⌜ r ≡ reported sent ⌝ }
+{
+    match sent {
+        Encoded::Wrote(n) => Answer::Sent(n),
+        Encoded::Refused(k) => Answer::Refused(k),
+    }
+}
+
+// The payload, and on to the next state.
+pub fn send(card: Card, next: State, payload: &[u8], out: &mut [u8]) -> Stepped
     ensures { λ r.
         ⌜ ((memory : List ℕ)
-        → returned r memory (now (out .exit)) ≡ sending card core memory (encodePacket (now (payload .entry)) (now (out .entry)))) ⌝ }
+        → returned r memory (now (out .exit))
+        ≡ sending card (withState (card .core) next) memory (encodePacket (now (payload .entry)) (now (out .entry)))) ⌝ }
 {
-    let sent = wire_packet::encode(payload, out);
-    match sent {
-        Encoded::Wrote(n) => answered(card, core, Answer::Sent(n)),
-        Encoded::Refused(k) => answered(card, core, Answer::Refused(k)),
-    }
+    let core = card.core;
+    let answer = report(wire_packet::encode(payload, out));
+    answered(card, with_state(core, next), answer)
 }
 
 // A number of 32 bits, high byte first; the transfer is over.
@@ -36,8 +49,50 @@ pub fn send_word(card: Card, word: u32, out: &mut [u8]) -> Stepped
         → returned r memory (now (out .exit))
         ≡ sending card (withState (card .core) Tran) memory (encodePacket (word32 word) (now (out .entry)))) ⌝ }
 {
-    let core = card.core;
     let mut payload: [u8; 4] = [0; 4];
-    codec::put(&mut payload, word as u64);
-    send(card, with_state(core, State::Tran), &payload, out)
+    codec::put32(&mut payload, word);
+    send(card, State::Tran, &payload, out)
+}
+
+// 30: the marks from the group of an address on.
+pub fn send_marks(card: Card, address: u32, out: &mut [u8]) -> Stepped
+    ensures { λ r.
+        ⌜ ((memory : List ℕ)
+        → returned r memory (now (out .exit)) ≡ sending card (withState (card .core) Tran) memory (encodePacket (markBytes (card .core) address) (now (out .entry)))) ⌝ }
+{
+    let marks = card.core.marks;
+    let word = mark_word(card.core.settings.blocks, &marks, address);
+    send_word(card, word, out)
+}
+
+// The SD status is all zero.
+pub fn send_status(card: Card, out: &mut [u8]) -> Stepped
+    ensures { λ r.
+        ⌜ ((memory : List ℕ)
+        → returned r memory (now (out .exit)) ≡ sending card (withState (card .core) Tran) memory (encodePacket (replicate 64 0) (now (out .entry)))) ⌝ }
+{
+    let payload: [u8; 64] = [0; 64];
+    send(card, State::Tran, &payload, out)
+}
+
+pub fn send_scr(card: Card, out: &mut [u8]) -> Stepped
+    ensures { λ r.
+        ⌜ ((memory : List ℕ)
+        → returned r memory (now (out .exit)) ≡ sending card (withState (card .core) Tran) memory (encodePacket scrBytes (now (out .entry)))) ⌝ }
+{
+    let payload: [u8; 8] = [2, 1, 0, 0, 0, 0, 0, 0];
+    send(card, State::Tran, &payload, out)
+}
+
+// A status bit by its number; the transfer is silent until it is ended.
+pub fn hold(card: Card, bit: u8, multiple: bool, address: u32) -> Stepped
+    ensures { λ r. ⌜ ((memory out : List ℕ) → returned r memory out ≡ turned card memory out (holdRead (card .core) multiple address bit)) ⌝ }
+{
+    let core = card.core;
+    let held = State::Data(Source::Blocks {
+        multiple: multiple,
+        address: address,
+        held: true,
+    });
+    answered(card, with_state(raise(core, bit), held), Answer::Silence)
 }

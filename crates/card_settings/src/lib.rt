@@ -1,6 +1,8 @@
-// Which settings are allowed, and the CSD that they give.
+// Sizes of the card, the settings that are allowed, and the CSD that they give.
 ghost use mathlib.Core.Path.{_≡_};
-ghost use Rattle.card_model.specs.Settings.{allowed, csdOf};
+ghost use Prim.Native.Nat.{_+_, _-_, _*_, _/_};
+ghost use Rattle.card_model.specs.declared.settings.Settings.{Settings};
+ghost use Rattle.card_model.specs.Settings.{BLOCK, GROUP, addressOf, allowed, csdOf};
 
 mod pair;
 pub mod register;
@@ -8,19 +10,52 @@ pub mod register;
 use card_model::settings::Settings;
 use reg_csd::Csd;
 
+// The block length of the card, and the blocks of a protection group.
+pub const BLOCK: u32 = 512;
+
+pub const GROUP: u32 = 32;
+
+// Limits of the block count and of the start polls.
+pub const LEAST: u32 = 4;
+
+pub const MOST: u32 = 65536;
+
+pub const POLLS: u8 = 15;
+
+// The first byte address behind so many blocks.
+pub fn capacity(blocks: u32) -> u64
+    ensures { λ r. ⌜ r ≡ blocks * BLOCK ⌝ }
+{
+    blocks as u64 * BLOCK as u64
+}
+
+// How many protection groups so many blocks have; the last may be short.
+pub fn groups(blocks: u32) -> u64
+    ensures { λ r. ⌜ r ≡ (blocks + (GROUP - 1)) / GROUP ⌝ }
+{
+    (blocks as u64 + (GROUP as u64 - 1)) / GROUP as u64
+}
+
+// The byte address that the argument of a command means.
+pub fn address_of(argument: u32) -> u32
+    ensures { λ r. ⌜ ((s : Settings) → r ≡ addressOf s argument) ⌝ }
+{
+    argument
+}
+
 pub fn allowed(s: Settings) -> bool
     ensures { λ r. ⌜ r ≡ allowed s ⌝ }
 {
-    if s.blocks < 4 {
+    if s.blocks < LEAST {
         return false;
     }
-    if s.blocks > 65536 {
+    if s.blocks > MOST {
         return false;
     }
     if !pair::is_pair(reg_size::size_pair(s.blocks)) {
         return false;
     }
-    if s.polls > 15 {
+    if s.polls > POLLS {
         return false;
     }
     let cid = s.cid;
@@ -50,7 +85,7 @@ pub fn csd_of(s: Settings) -> Csd
         vdd_w_curr_max: 0,
         c_size_mult: pair::mult(p),
         erase_blk_en: true,
-        sector_size: 31,
+        sector_size: GROUP as u8 - 1,
         wp_grp_size: 0,
         wp_grp_enable: true,
         r2w_factor: 0,

@@ -57,7 +57,7 @@ fn all_equal(a: [u64; 28], b: [u64; 28]) -> bool
     true
 }
 
-pub fn same(a: Csd, b: Csd) -> bool
+pub fn equal(a: Csd, b: Csd) -> bool
     ensures { λ r. ⌜ r ≡ equal (csdValues a) (csdValues b) ⌝ }
 {
     all_equal(values(a), values(b))

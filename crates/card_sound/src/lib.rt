@@ -7,7 +7,9 @@ mod marks;
 mod state;
 
 use card_model::card::Core;
+use card_settings::BLOCK;
 use card_settings::allowed;
+use card_settings::capacity;
 use card_settings::csd_of;
 
 // The settings, the polls left, the block length, and the transfer.
@@ -19,7 +21,7 @@ fn unsound_first(c: Core) -> bool
         return true;
     }
     let own = c.csd;
-    if !card_settings::register::same(own, csd_of(s)) {
+    if !card_settings::register::equal(own, csd_of(s)) {
         return true;
     }
     let bus = c.bus;
@@ -29,14 +31,15 @@ fn unsound_first(c: Core) -> bool
     if c.length < 1 {
         return true;
     }
-    if c.length > 512 {
+    if c.length as u32 > BLOCK {
         return true;
     }
     let state = bus.state;
-    if state::capacity(s.blocks) < state::transfer_address(state) as u64 {
+    let open = card_state::open(state);
+    if capacity(s.blocks) < card_state::transfer_address(open) as u64 {
         return true;
     }
-    state::off_block(state)
+    state::off_write(open)
 }
 
 // The blocks written, the erase addresses, the card's address, the marks, and the application mark.
@@ -49,26 +52,28 @@ fn unsound_rest(c: Core) -> bool
     if blocks < c.written {
         return true;
     }
-    if state::written_most(state, blocks) < c.written {
+    if state::written_most(card_state::open(state), blocks) < c.written {
         return true;
     }
+    let top = capacity(blocks);
     let erase = c.erase;
     let first = erase.first;
-    if state::outside(state::capacity(blocks), first) {
+    if state::mark_outside(top, first) {
         return true;
     }
     let second = erase.second;
-    if state::outside(state::capacity(blocks), second) {
+    if state::mark_outside(top, second) {
         return true;
     }
-    if state::bad_rca(state, bus.rca) {
+    let number = card_state::number(state);
+    if state::bad_rca(number, bus.rca) {
         return true;
     }
     let marks = c.marks;
-    if marks::marked_from(marks, marks::groups(blocks)) {
+    if marks::marked_from(&marks, card_settings::groups(blocks)) {
         return true;
     }
-    state::bad_app(state, bus.app)
+    state::bad_app(number, bus.app)
 }
 
 // The items of 01's list that a record can break, in its order.

@@ -1,22 +1,14 @@
 // The protection marks behind the last group.
 ghost use mathlib.Core.Path.{_≡_};
-ghost use Prim.Native.Nat.{_+_, _/_};
 ghost use lib.ListN.{drop};
 ghost use Rattle.card_model.specs.Soundness.{anyByte, markedFrom};
 
-// How many protection groups so many blocks have; the last may be short.
-pub(crate) fn groups(blocks: u32) -> u64
-    ensures { λ r. ⌜ r ≡ (blocks + 31) / 32 ⌝ }
-{
-    (blocks as u64 + 31) / 32
-}
-
 // Some byte from a place on is not zero.
-fn any_byte(marks: [u8; 256], start: usize) -> bool
-    ensures { λ r. ⌜ r ≡ anyByte (drop start marks) ⌝ }
+fn any_byte(marks: &[u8], start: usize) -> bool
+    ensures { λ r. ⌜ r ≡ anyByte (drop start (now (marks .entry))) ⌝ }
 {
     let mut i = start;
-    while i < 256 {
+    while i < marks.len() {
         if marks[i] != 0 {
             return true;
         }
@@ -26,11 +18,11 @@ fn any_byte(marks: [u8; 256], start: usize) -> bool
 }
 
 // A mark of a group or of one behind it.
-pub(crate) fn marked_from(marks: [u8; 256], group: u64) -> bool
-    ensures { λ r. ⌜ r ≡ markedFrom marks group ⌝ }
+pub(crate) fn marked_from(marks: &[u8], group: u64) -> bool
+    ensures { λ r. ⌜ r ≡ markedFrom (now (marks .entry)) group ⌝ }
 {
     let at = (group / 8) as usize;
-    if at >= 256 {
+    if at >= marks.len() {
         return false;
     }
     if marks[at] >> (group % 8) != 0 {

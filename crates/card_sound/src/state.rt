@@ -1,129 +1,69 @@
-// What a record's state says of its transfer, its address and its application mark.
+// What is asked of the transfer, of an erase mark, and of the number of a state.
 ghost use mathlib.Core.Path.{_≡_};
-ghost use Prim.Native.Nat.{_*_};
-ghost use Rattle.card_model.specs.Soundness.{transferAddress, writtenMost, offBlock, outside, badRca, badApp};
-ghost use Rattle.card_model.specs.declared.card.State.the-variants.{Data};
-use card_model::card::Mark;
-use card_model::card::Source;
-use card_model::card::State;
+ghost use Rattle.card_model.specs.Soundness.{offWrite, writtenMost, markOutside, badRca, badApp};
+use card_model::card::EraseMark;
+use card_model::state::Open;
+use card_settings::BLOCK;
+use card_state::sink_address;
 
-// The first byte address behind so many blocks.
-pub(crate) fn capacity(blocks: u32) -> u64
-    ensures { λ r. ⌜ r ≡ blocks * 512 ⌝ }
-{
-    blocks as u64 * 512
-}
+const READY: u8 = 1;
 
-// The address of a read transfer.
-fn source_address(s: Source) -> u32
-    ensures { λ r. ⌜ r ≡ transferAddress (Data s) ⌝ }
-{
-    match s {
-        Source::Blocks {
-            multiple: _,
-            address,
-            held: _,
-        } => address,
-        Source::WriteProtect { address } => address,
-        Source::SdStatus => 0,
-        Source::WrittenBlocks => 0,
-        Source::Scr => 0,
-    }
-}
+const IDENT: u8 = 2;
 
-pub(crate) fn transfer_address(s: State) -> u32
-    ensures { λ r. ⌜ r ≡ transferAddress s ⌝ }
+const STBY: u8 = 3;
+
+const INA: u8 = 9;
+
+// A write's address is no multiple of a block.
+pub(crate) fn off_write(o: Open) -> bool
+    ensures { λ r. ⌜ r ≡ offWrite o ⌝ }
 {
-    match s {
-        State::Idle => 0,
-        State::Ready => 0,
-        State::Ident => 0,
-        State::Stby => 0,
-        State::Tran => 0,
-        State::Data(source) => source_address(source),
-        State::Rcv(sink) => sink.address,
-        State::Prg => 0,
-        State::Dis => 0,
-        State::Ina => 0,
+    match o {
+        Open::Nothing => false,
+        Open::Read(_) => false,
+        Open::Write(sink) => sink_address(sink) % BLOCK != 0,
+        Open::Busy(_) => false,
     }
 }
 
 // The blocks below a write transfer's address, or n elsewhere.
-pub(crate) fn written_most(s: State, n: u32) -> u32
-    ensures { λ r. ⌜ r ≡ writtenMost s n ⌝ }
+pub(crate) fn written_most(o: Open, n: u32) -> u32
+    ensures { λ r. ⌜ r ≡ writtenMost o n ⌝ }
 {
-    match s {
-        State::Idle => n,
-        State::Ready => n,
-        State::Ident => n,
-        State::Stby => n,
-        State::Tran => n,
-        State::Data(_) => n,
-        State::Rcv(sink) => sink.address / 512,
-        State::Prg => n,
-        State::Dis => n,
-        State::Ina => n,
-    }
-}
-
-// A write's address is no multiple of 512.
-pub(crate) fn off_block(s: State) -> bool
-    ensures { λ r. ⌜ r ≡ offBlock s ⌝ }
-{
-    match s {
-        State::Idle => false,
-        State::Ready => false,
-        State::Ident => false,
-        State::Stby => false,
-        State::Tran => false,
-        State::Data(_) => false,
-        State::Rcv(sink) => sink.address % 512 != 0,
-        State::Prg => false,
-        State::Dis => false,
-        State::Ina => false,
+    match o {
+        Open::Nothing => n,
+        Open::Read(_) => n,
+        Open::Write(sink) => sink_address(sink) / BLOCK,
+        Open::Busy(_) => n,
     }
 }
 
 // A marked address at the end of the card or behind it.
-pub(crate) fn outside(top: u64, m: Mark) -> bool
-    ensures { λ r. ⌜ r ≡ outside top m ⌝ }
+pub(crate) fn mark_outside(top: u64, m: EraseMark) -> bool
+    ensures { λ r. ⌜ r ≡ markOutside top m ⌝ }
 {
     match m {
-        Mark::Unset => false,
-        Mark::At(a) => top <= a as u64,
+        EraseMark::Unset => false,
+        EraseMark::At(a) => top <= a as u64,
     }
 }
 
-pub(crate) fn bad_rca(s: State, rca: u16) -> bool
-    ensures { λ r. ⌜ r ≡ badRca s rca ⌝ }
+// The RCA is nonzero in idle, ready and ident, or zero in stby to dis; free in ina.
+pub(crate) fn bad_rca(state: u8, rca: u16) -> bool
+    ensures { λ r. ⌜ r ≡ badRca state rca ⌝ }
 {
-    match s {
-        State::Idle => rca != 0,
-        State::Ready => rca != 0,
-        State::Ident => rca != 0,
-        State::Stby => rca == 0,
-        State::Tran => rca == 0,
-        State::Data(_) => rca == 0,
-        State::Rcv(_) => rca == 0,
-        State::Prg => rca == 0,
-        State::Dis => rca == 0,
-        State::Ina => false,
+    if state == INA {
+        return false;
     }
+    if state >= STBY {
+        return rca == 0;
+    }
+    rca != 0
 }
 
-pub(crate) fn bad_app(s: State, app: bool) -> bool
-    ensures { λ r. ⌜ r ≡ badApp s app ⌝ }
+// The application mark in ready, ident or ina.
+pub(crate) fn bad_app(state: u8, app: bool) -> bool
+    ensures { λ r. ⌜ r ≡ badApp state app ⌝ }
 {
-    match s {
-        State::Idle => false,
-        State::Ready => app,
-        State::Ident => app,
-        State::Stby => false,
-        State::Tran => false,
-        State::Data(_) => false,
-        State::Rcv(_) => false,
-        State::Prg => false,
-        State::Dis => false,
-        State::Ina => app,
-    }
+    app & ((state == READY) | ((state == IDENT) | (state == INA)))
 }

@@ -2,50 +2,59 @@
 pub mod word;
 
 ghost use mathlib.Core.Path.{_≡_};
-ghost use Rattle.card_model.specs.Status.{bits, noBits, join, OUT-OF-RANGE, ADDRESS-ERROR, BLOCK-LEN-ERROR, ERASE-SEQ-ERROR, ERASE-PARAM, WP-VIOLATION, ILLEGAL-COMMAND, WP-ERASE-SKIP, ERASE-RESET, withoutIllegal};
+ghost use Rattle.card_model.specs.Status.{only, noBits, join, withoutIllegal};
 use card_model::card::Kept;
 
-// One bit each, from the highest down.
-fn bits(
-    oor: bool,
-    adr: bool,
-    len: bool,
-    seq: bool,
-    par: bool,
-    wpv: bool,
-    ill: bool,
-    skip: bool,
-    reset: bool,
-) -> Kept
-    ensures { λ r. ⌜ r ≡ bits oor adr len seq par wpv ill skip reset ⌝ }
+// The standard's numbers.
+pub const OUT_OF_RANGE: u8 = 31;
+
+pub const ADDRESS_ERROR: u8 = 30;
+
+pub const BLOCK_LEN_ERROR: u8 = 29;
+
+pub const ERASE_SEQ_ERROR: u8 = 28;
+
+pub const ERASE_PARAM: u8 = 27;
+
+pub const WP_VIOLATION: u8 = 26;
+
+pub const ILLEGAL_COMMAND: u8 = 22;
+
+pub const WP_ERASE_SKIP: u8 = 15;
+
+pub const ERASE_RESET: u8 = 13;
+
+// The one bit of a number.
+pub fn only(n: u8) -> Kept
+    ensures { λ r. ⌜ r ≡ only n ⌝ }
 {
     Kept {
-        out_of_range: oor,
-        address_error: adr,
-        block_len_error: len,
-        erase_seq_error: seq,
-        erase_param: par,
-        wp_violation: wpv,
-        illegal_command: ill,
-        wp_erase_skip: skip,
-        erase_reset: reset,
+        out_of_range: n == OUT_OF_RANGE,
+        address_error: n == ADDRESS_ERROR,
+        block_len_error: n == BLOCK_LEN_ERROR,
+        erase_seq_error: n == ERASE_SEQ_ERROR,
+        erase_param: n == ERASE_PARAM,
+        wp_violation: n == WP_VIOLATION,
+        illegal_command: n == ILLEGAL_COMMAND,
+        wp_erase_skip: n == WP_ERASE_SKIP,
+        erase_reset: n == ERASE_RESET,
     }
 }
 
 pub fn no_bits() -> Kept
     ensures { λ r. ⌜ r ≡ noBits ⌝ }
 {
-    bits(
-        false,
-        false,
-        false,
-        false,
-        false,
-        false,
-        false,
-        false,
-        false,
-    )
+    Kept {
+        out_of_range: false,
+        address_error: false,
+        block_len_error: false,
+        erase_seq_error: false,
+        erase_param: false,
+        wp_violation: false,
+        illegal_command: false,
+        wp_erase_skip: false,
+        erase_reset: false,
+    }
 }
 
 // The bits of both.
@@ -63,60 +72,6 @@ pub fn join(a: Kept, b: Kept) -> Kept
         wp_erase_skip: a.wp_erase_skip | b.wp_erase_skip,
         erase_reset: a.erase_reset | b.erase_reset,
     }
-}
-
-pub fn out_of_range() -> Kept
-    ensures { λ r. ⌜ r ≡ OUT-OF-RANGE ⌝ }
-{
-    bits(true, false, false, false, false, false, false, false, false)
-}
-
-pub fn address_error() -> Kept
-    ensures { λ r. ⌜ r ≡ ADDRESS-ERROR ⌝ }
-{
-    bits(false, true, false, false, false, false, false, false, false)
-}
-
-pub fn block_len_error() -> Kept
-    ensures { λ r. ⌜ r ≡ BLOCK-LEN-ERROR ⌝ }
-{
-    bits(false, false, true, false, false, false, false, false, false)
-}
-
-pub fn erase_seq_error() -> Kept
-    ensures { λ r. ⌜ r ≡ ERASE-SEQ-ERROR ⌝ }
-{
-    bits(false, false, false, true, false, false, false, false, false)
-}
-
-pub fn erase_param() -> Kept
-    ensures { λ r. ⌜ r ≡ ERASE-PARAM ⌝ }
-{
-    bits(false, false, false, false, true, false, false, false, false)
-}
-
-pub fn wp_violation() -> Kept
-    ensures { λ r. ⌜ r ≡ WP-VIOLATION ⌝ }
-{
-    bits(false, false, false, false, false, true, false, false, false)
-}
-
-pub fn illegal_command() -> Kept
-    ensures { λ r. ⌜ r ≡ ILLEGAL-COMMAND ⌝ }
-{
-    bits(false, false, false, false, false, false, true, false, false)
-}
-
-pub fn wp_erase_skip() -> Kept
-    ensures { λ r. ⌜ r ≡ WP-ERASE-SKIP ⌝ }
-{
-    bits(false, false, false, false, false, false, false, true, false)
-}
-
-pub fn erase_reset() -> Kept
-    ensures { λ r. ⌜ r ≡ ERASE-RESET ⌝ }
-{
-    bits(false, false, false, false, false, false, false, false, true)
 }
 
 // ILLEGAL_COMMAND goes after every command that runs.

@@ -1,52 +1,51 @@
 // The card status that a response shows.
 ghost use mathlib.Core.Path.{_≡_};
-ghost use Prim.Native.Nat.{_+_, _*_, _^_, _≤_};
-ghost use Rattle.crc.specs.Bits.{digit};
-ghost use Rattle.card_model.specs.Status.{status, readyFor};
-ghost use Rattle.card_model.specs.Table.{nameOf, code};
+ghost use mathlib.Core.Bool.{true, false};
+ghost use Prim.Native.Nat.{_+_, _^_, _≤_, _<_};
+ghost use Rattle.card_model.specs.State.{readyFor};
+ghost use Rattle.card_model.specs.Status.{at, status};
 use card_model::card::Kept;
-use card_model::card::State;
 
-fn bit(value: bool, weight: u32) -> u32
-    ensures { λ r. ⌜ (r ≡ digit value * weight) × (r ≤ weight) ⌝ }
+const PRG: u8 = 7;
+
+const DIS: u8 = 8;
+
+// A bit at its number.
+fn bit(value: bool, n: u8) -> u32
+    requires { ⌜ n < 32 ⌝ }
+    ensures { λ r. ⌜ (r ≡ at n value) × (r ≤ 2 ^ n) ⌝ }
 {
     if value {
-        return weight;
+        return 1 << n;
     }
     0
 }
 
-// CURRENT_STATE and READY_FOR_DATA.
-fn state_bits(s: State) -> u32
-    ensures { λ r. ⌜ (r ≡ code (nameOf s) * 2 ^ 9 + digit (readyFor (nameOf s)) * 2 ^ 8) × (r ≤ 0x1300) ⌝ }
+// READY_FOR_DATA
+fn ready_for(state: u8) -> bool
+    ensures { λ r. ⌜ r ≡ readyFor state ⌝ }
 {
-    match s {
-        State::Idle => 0x0100,
-        State::Ready => 0x0300,
-        State::Ident => 0x0500,
-        State::Stby => 0x0700,
-        State::Tran => 0x0900,
-        State::Data(_) => 0x0B00,
-        State::Rcv(_) => 0x0D00,
-        State::Prg => 0x0E00,
-        State::Dis => 0x1000,
-        State::Ina => 0x1300,
-    }
+    !((state == PRG) | (state == DIS))
 }
 
-// The word without COM_CRC_ERROR; the state is that at reception.
-pub fn status(k: Kept, s: State, app: bool) -> u32
-    ensures { λ r. ⌜ r ≡ status k (nameOf s) app ⌝ }
+// The kept bits: what idle shows but for READY_FOR_DATA.
+fn kept_bits(k: Kept) -> u32
+    ensures { λ r. ⌜ (r + at 8 true ≡ status k 0 false) × (r ≤ 0xFC40A000) ⌝ }
 {
-    bit(k.out_of_range, 0x8000_0000)
-        + bit(k.address_error, 0x4000_0000)
-        + bit(k.block_len_error, 0x2000_0000)
-        + bit(k.erase_seq_error, 0x1000_0000)
-        + bit(k.erase_param, 0x0800_0000)
-        + bit(k.wp_violation, 0x0400_0000)
-        + bit(k.illegal_command, 0x0040_0000)
-        + bit(k.wp_erase_skip, 0x8000)
-        + bit(k.erase_reset, 0x2000)
-        + state_bits(s)
-        + bit(app, 0x20)
+    bit(k.out_of_range, crate::OUT_OF_RANGE)
+        + bit(k.address_error, crate::ADDRESS_ERROR)
+        + bit(k.block_len_error, crate::BLOCK_LEN_ERROR)
+        + bit(k.erase_seq_error, crate::ERASE_SEQ_ERROR)
+        + bit(k.erase_param, crate::ERASE_PARAM)
+        + bit(k.wp_violation, crate::WP_VIOLATION)
+        + bit(k.illegal_command, crate::ILLEGAL_COMMAND)
+        + bit(k.wp_erase_skip, crate::WP_ERASE_SKIP)
+        + bit(k.erase_reset, crate::ERASE_RESET)
+}
+
+// The word without COM_CRC_ERROR, with the number of the state at reception.
+pub fn status(k: Kept, state: u8, app: bool) -> u32
+    ensures { λ r. ⌜ r ≡ status k state app ⌝ }
+{
+    kept_bits(k) + (state as u32) * 512 + bit(ready_for(state), 8) + bit(app, 5)
 }

@@ -1,3 +1,2 @@
--- Laws of the transition table by numbers, and of rows found by their index.
+-- Laws of the rows by number, and of commands found in a list.
 pub mod Rows
-pub mod Found

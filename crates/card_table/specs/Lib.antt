@@ -1,3 +1,2 @@
--- The table's moves by number, and what a chosen row stands for.
-pub mod Chosen
-pub mod Moves
+-- The transition table as the code has it.
+pub mod Packed

@@ -1,130 +1,171 @@
-// The transition table, and the command that the card takes an index for.
-mod index;
-
+// The transition table: a row for each command.
 ghost use mathlib.Core.Path.{_≡_};
-ghost use Prim.Native.Nat.{_*_, _/_, _%_, _^_};
-ghost use Rattle.card_model.specs.Table.{Name, nameOf, code, moves, legal, after, arrive};
-ghost use Rattle.card_model.specs.Frame.{rowOf};
-ghost use Rattle.card_table.specs.Chosen.{chosen};
-ghost use Rattle.card_table.specs.Moves.{leadCode, nameAt};
-use crate::index::application;
-use crate::index::plain;
-use card_model::card::Core;
-use card_model::card::State;
+ghost use Prim.Native.Nat.{_≤_};
+ghost use Rattle.card_model.specs.Table.{row, moves, showsApp, setsApp, misses, legal, after};
+ghost use Rattle.card_table.specs.Packed.{leadOr, packedRow};
 use card_model::command::Command;
+use card_model::command::Kind;
+use card_model::command::Rca;
+use card_model::state::State;
+use card_state::arrive;
+use card_state::number;
 
-// A command by its index: whether the argument names a card, and whether bit 5 shows in the answer.
-pub struct Chosen {
-    pub command: Command,
-    pub addressed: bool,
-    pub app: bool,
+pub struct Columns {
+    pub index: u8,
+    pub kind: Kind,
+    pub rca: Rca,
+    // it leaves pending erase marks
+    pub keeps_erase: bool,
+    // a hex digit for each state, ina first, idle last: the number of the state that it leads to, F where none
+    pub moves: u64,
+}
+
+const KEEPS: bool = true;
+
+const DROPS: bool = false;
+
+fn of(index: u8, kind: Kind, rca: Rca, keeps_erase: bool, moves: u64) -> Columns
+    ensures { λ r. ⌜ r ≡ record { index = index; kind = kind; rca = rca; «keeps_erase» = «keeps_erase»; moves = moves } ⌝ }
+{
+    Columns {
+        index: index,
+        kind: kind,
+        rca: rca,
+        keeps_erase: keeps_erase,
+        moves: moves,
+    }
+}
+
+fn plain(index: u8, rca: Rca, keeps_erase: bool, moves: u64) -> Columns
+    ensures { λ r. ⌜ r ≡ record { index = index; kind = Kind.Plain; rca = rca; «keeps_erase» = «keeps_erase»; moves = moves } ⌝ }
+{
+    of(index, Kind::Plain, rca, keeps_erase, moves)
+}
+
+fn app_cmd(index: u8, rca: Rca, keeps_erase: bool, moves: u64) -> Columns
+    ensures { λ r. ⌜ r ≡ record { index = index; kind = Kind.AppCmd; rca = rca; «keeps_erase» = «keeps_erase»; moves = moves } ⌝ }
+{
+    of(index, Kind::AppCmd, rca, keeps_erase, moves)
+}
+
+fn application(index: u8, rca: Rca, keeps_erase: bool, moves: u64) -> Columns
+    ensures { λ r. ⌜ r ≡ record { index = index; kind = Kind.Application; rca = rca; «keeps_erase» = «keeps_erase»; moves = moves } ⌝ }
+{
+    of(index, Kind::Application, rca, keeps_erase, moves)
+}
+
+pub fn row(command: Command) -> Columns
+    ensures { λ r. ⌜ r ≡ packedRow command ⌝ }
+{
+    match command {
+        // kind, index, RCA, erase marks, moves
+        Command::GoIdleState => plain(0, Rca::Unused, KEEPS, 0xF_0_0_0_0_0_0_0_0_0),
+        Command::AllSendCid => plain(2, Rca::Unused, DROPS, 0xF_F_F_F_F_F_F_F_2_F),
+        Command::SendRelativeAddr => plain(3, Rca::Unused, DROPS, 0xF_F_F_F_F_F_3_3_F_F),
+        Command::SelectCard => plain(7, Rca::Own, DROPS, 0xF_7_F_F_F_F_4_F_F_F),
+        Command::DeselectCard => plain(7, Rca::Other, DROPS, 0xF_F_8_F_3_3_3_F_F_F),
+        Command::SendIfCond => plain(8, Rca::Unused, DROPS, 0xF_F_F_F_F_F_F_F_F_0),
+        Command::SendCsd => plain(9, Rca::Addressed, DROPS, 0xF_F_F_F_F_F_3_F_F_F),
+        Command::SendCid => plain(10, Rca::Addressed, DROPS, 0xF_F_F_F_F_F_3_F_F_F),
+        Command::StopTransmission => plain(12, Rca::Unused, DROPS, 0xF_F_F_7_4_F_F_F_F_F),
+        Command::SendStatus => plain(13, Rca::Addressed, DROPS, 0xF_8_7_6_5_4_3_F_F_F),
+        Command::AppCmd => app_cmd(55, Rca::Addressed, DROPS, 0xF_8_7_6_5_4_3_F_F_0),
+        Command::GoInactiveState => plain(15, Rca::Addressed, DROPS, 0xF_9_9_9_9_9_9_F_F_F),
+        Command::SetBlocklen => plain(16, Rca::Unused, DROPS, 0xF_F_F_F_F_4_F_F_F_F),
+        Command::ReadSingleBlock => plain(17, Rca::Unused, DROPS, 0xF_F_F_F_F_5_F_F_F_F),
+        Command::ReadMultipleBlock => plain(18, Rca::Unused, DROPS, 0xF_F_F_F_F_5_F_F_F_F),
+        Command::SendWriteProt => plain(30, Rca::Unused, DROPS, 0xF_F_F_F_F_5_F_F_F_F),
+        Command::WriteBlock => plain(24, Rca::Unused, DROPS, 0xF_F_F_F_F_6_F_F_F_F),
+        Command::WriteMultipleBlock => plain(25, Rca::Unused, DROPS, 0xF_F_F_F_F_6_F_F_F_F),
+        Command::SetWriteProt => plain(28, Rca::Unused, DROPS, 0xF_F_F_F_F_7_F_F_F_F),
+        Command::ClrWriteProt => plain(29, Rca::Unused, DROPS, 0xF_F_F_F_F_7_F_F_F_F),
+        Command::Erase => plain(38, Rca::Unused, KEEPS, 0xF_F_F_F_F_7_F_F_F_F),
+        Command::EraseWrBlkStart => plain(32, Rca::Unused, KEEPS, 0xF_F_F_F_F_4_F_F_F_F),
+        Command::EraseWrBlkEnd => plain(33, Rca::Unused, KEEPS, 0xF_F_F_F_F_4_F_F_F_F),
+        Command::SdStatus => application(13, Rca::Unused, DROPS, 0xF_F_F_F_F_5_F_F_F_F),
+        Command::SendNumWrBlocks => application(22, Rca::Unused, DROPS, 0xF_F_F_F_F_5_F_F_F_F),
+        Command::SendScr => application(51, Rca::Unused, DROPS, 0xF_F_F_F_F_5_F_F_F_F),
+        Command::SetWrBlkEraseCount => application(23, Rca::Unused, DROPS, 0xF_F_F_F_F_4_F_F_F_F),
+        Command::SetClrCardDetect => application(42, Rca::Unused, DROPS, 0xF_F_F_F_F_4_F_F_F_F),
+        Command::SdSendOpCond => application(41, Rca::Unused, DROPS, 0xF_F_F_F_F_F_F_F_F_0),
+        Command::Unknown => plain(64, Rca::Unused, DROPS, 0xF_F_F_F_F_F_F_F_F_F),
+    }
+}
+
+// Addressed to another RCA.
+pub fn misses(command: Command, own: bool) -> bool
+    ensures { λ r. ⌜ r ≡ misses (row command .rca) own ⌝ }
+{
+    let meant = row(command);
+    let rca = meant.rca;
+    match rca {
+        Rca::Unused => false,
+        Rca::Addressed => !own,
+        Rca::Own => false,
+        Rca::Other => false,
+    }
+}
+
+pub fn shows_app(command: Command) -> bool
+    ensures { λ r. ⌜ r ≡ showsApp (row command .kind) ⌝ }
+{
+    let shown = row(command);
+    let kind = shown.kind;
+    match kind {
+        Kind::Plain => false,
+        Kind::AppCmd => true,
+        Kind::Application => true,
+    }
+}
+
+pub fn sets_app(command: Command) -> bool
+    ensures { λ r. ⌜ r ≡ setsApp (row command .kind) ⌝ }
+{
+    let set = row(command);
+    let kind = set.kind;
+    match kind {
+        Kind::Plain => false,
+        Kind::AppCmd => true,
+        Kind::Application => false,
+    }
+}
+
+pub fn keeps_erase(command: Command) -> bool
+    ensures { λ r. ⌜ r ≡ row command .keepsErase ⌝ }
+{
+    row(command).keeps_erase
+}
+
+pub fn index(command: Command) -> u8
+    ensures { λ r. ⌜ r ≡ row command .index ⌝ }
+{
+    row(command).index
 }
 
 const NONE: u8 = 15;
 
-fn number(s: State) -> u8
-    ensures { λ r. ⌜ r ≡ code (nameOf s) ⌝ }
+fn lead(command: Command, from: u8) -> u8
+    requires { ⌜ from ≤ 9 ⌝ }
+    ensures { λ r. ⌜ r ≡ leadOr (moves command) from ⌝ }
 {
-    match s {
-        State::Idle => 0,
-        State::Ready => 1,
-        State::Ident => 2,
-        State::Stby => 3,
-        State::Tran => 4,
-        State::Data(_) => 5,
-        State::Rcv(_) => 6,
-        State::Prg => 7,
-        State::Dis => 8,
-        State::Ina => 9,
-    }
+    let found = row(command);
+    ((found.moves >> (4 * from)) & 15) as u8
 }
 
-// A row for each command, a digit for each state, idle last: the number of the state that it leads to, F where none.
-fn row(command: Command) -> u64
-    ensures { λ r. ⌜ ((n : Name) → r / 2 ^ (4 * code n) % 16 ≡ leadCode (moves command) n) ⌝ }
+pub fn legal(command: Command, state: State) -> bool
+    ensures { λ r. ⌜ r ≡ legal command state ⌝ }
 {
-    match command {
-        Command::GoIdleState => 0xF_0_0_0_0_0_0_0_0_0,
-        Command::AllSendCid => 0xF_F_F_F_F_F_F_F_2_F,
-        Command::SendRelativeAddr => 0xF_F_F_F_F_F_3_3_F_F,
-        Command::SelectCard => 0xF_7_F_F_F_F_4_F_F_F,
-        Command::DeselectCard => 0xF_F_8_F_3_3_3_F_F_F,
-        Command::SendIfCond => 0xF_F_F_F_F_F_F_F_F_0,
-        Command::SendCsd => 0xF_F_F_F_F_F_3_F_F_F,
-        Command::SendCid => 0xF_F_F_F_F_F_3_F_F_F,
-        Command::StopTransmission => 0xF_F_F_7_4_F_F_F_F_F,
-        Command::SendStatus => 0xF_8_7_6_5_4_3_F_F_F,
-        Command::GoInactiveState => 0xF_9_9_9_9_9_9_F_F_F,
-        Command::SetBlocklen => 0xF_F_F_F_F_4_F_F_F_F,
-        Command::ReadSingleBlock => 0xF_F_F_F_F_5_F_F_F_F,
-        Command::ReadMultipleBlock => 0xF_F_F_F_F_5_F_F_F_F,
-        Command::WriteBlock => 0xF_F_F_F_F_6_F_F_F_F,
-        Command::WriteMultipleBlock => 0xF_F_F_F_F_6_F_F_F_F,
-        Command::SetWriteProt => 0xF_F_F_F_F_7_F_F_F_F,
-        Command::ClrWriteProt => 0xF_F_F_F_F_7_F_F_F_F,
-        Command::SendWriteProt => 0xF_F_F_F_F_5_F_F_F_F,
-        Command::EraseWrBlkStart => 0xF_F_F_F_F_4_F_F_F_F,
-        Command::EraseWrBlkEnd => 0xF_F_F_F_F_4_F_F_F_F,
-        Command::Erase => 0xF_F_F_F_F_7_F_F_F_F,
-        Command::AppCmd => 0xF_8_7_6_5_4_3_F_F_0,
-        Command::SdStatus => 0xF_F_F_F_F_5_F_F_F_F,
-        Command::SendNumWrBlocks => 0xF_F_F_F_F_5_F_F_F_F,
-        Command::SetWrBlkEraseCount => 0xF_F_F_F_F_4_F_F_F_F,
-        Command::SdSendOpCond => 0xF_F_F_F_F_F_F_F_F_0,
-        Command::SetClrCardDetect => 0xF_F_F_F_F_4_F_F_F_F,
-        Command::SendScr => 0xF_F_F_F_F_5_F_F_F_F,
-        Command::Unknown => 0xF_F_F_F_F_F_F_F_F_F,
-    }
+    lead(command, number(state)) != NONE
 }
 
-fn lead(command: Command, s: State) -> u8
-    ensures { λ r. ⌜ r ≡ leadCode (moves command) (nameOf s) ⌝ }
-{
-    ((row(command) >> (4 * number(s))) & 15) as u8
-}
-
-pub fn legal(command: Command, s: State) -> bool
-    ensures { λ r. ⌜ r ≡ legal command s ⌝ }
-{
-    lead(command, s) != NONE
-}
-
-// The state of a number; data and rcv are the transfer `t`.
-fn arrive(n: u8, t: State) -> State
-    ensures { λ r. ⌜ r ≡ arrive (nameAt n) t ⌝ }
-{
-    match n {
-        0 => State::Idle,
-        1 => State::Ready,
-        2 => State::Ident,
-        3 => State::Stby,
-        4 => State::Tran,
-        5 => t,
-        6 => t,
-        7 => State::Prg,
-        8 => State::Dis,
-        _ => State::Ina,
-    }
-}
-
-// The state after a command, with transfer `t` where it opens one.
+// The state after a command, with transfer t where it opens one.
 pub fn after(command: Command, s: State, t: State) -> State
     ensures { λ r. ⌜ r ≡ after command s t ⌝ }
 {
-    let to = lead(command, s);
+    let from = number(s);
+    let to = lead(command, from);
     if to == NONE {
-        return arrive(number(s), t);
+        return arrive(from, t);
     }
     arrive(to, t)
-}
-
-pub fn choose(c: Core, index: u8, argument: u32) -> Chosen
-    ensures { λ r. ⌜ chosen index r ≡ rowOf c index argument ⌝ }
-{
-    let own = (argument >> 16) == (c.bus.rca as u32);
-    let found = plain(index, own);
-    if c.bus.app {
-        return application(index, found);
-    }
-    found
 }

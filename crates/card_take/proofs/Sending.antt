@@ -1,41 +1,38 @@
 -- A payload that is sent whole is the turn's block.
-use mathlib.Core.Path.{_≡_, sym, ap, ap₂, _∙_}
+use mathlib.Core.Path.{_≡_, refl, sym, ap, ap₂, _∙_}
+use mathlib.Core.Bool.{Bool}
 use mathlib.Core.List.{List}
-use Prim.Native.Nat.{ℕ, _≤_}
+use Prim.Native.Nat.{ℕ, _+_, _≤_}
 use native.Mathlib.Omega.{arith}
 use lib.ListN.{length}
-use Rattle.crc.specs.Bits.{bits}
+use Rattle.crc.specs.Bits.{bytes}
 use Rattle.crc.proofs.Bits.{length-bytes}
-use Rattle.wire_packet.specs.Packet.{encodePacket}
+use Rattle.wire_packet.specs.Packet.{CHECK, encodePacket}
 use Rattle.wire_packet.proofs.Answers.{encode-done}
 use Rattle.card_model.specs.declared.card.Core.{Core}
 use Rattle.card_model.specs.declared.card.Card.{Card}
-use Rattle.card_model.specs.Execute.{same}
+use Rattle.card_model.specs.Settings.{BLOCK}
+use Rattle.card_model.specs.Effects.{affected}
 use Rattle.card_model.specs.Frame.{block}
-use Rattle.card_model.specs.Data.{said, word32}
-use Rattle.card_model.specs.Step.{wire, replyOf, flagged, affected, show}
+use Rattle.card_model.specs.Data.{said}
+use Rattle.card_model.specs.Step.{wire, replyOf, flagged, show}
 use Rattle.card_call.specs.declared.Stepped.{Stepped}
-use Rattle.card_call.specs.Seen.{returned}
+use Rattle.card_call.specs.Seen.{returned, turned}
+use Rattle.card_call.proofs.Turns.{same-marks}
 use Rattle.card_send.specs.Sending.{sending}
-use Rattle.card_open.specs.Turned.{turned}
 
-pub block-sent : (payload : List ℕ) (r : Stepped) (card : Card) (core : Core) (memory out made : List ℕ)
-    → 1 ≤ length payload → length payload ≤ 512 → 514 ≤ length out
-    → returned r memory made ≡ sending card core memory (encodePacket payload out)
-    → returned r memory made ≡ turned card memory out (said core (block payload) same)
-unfolding show wire replyOf flagged affected
-block-sent payload r card core memory out made low high room h =
-    h ∙ ap (sending card core memory) (sym (encode-done payload out low high room))
+module _ (r : Stepped) (card : Card) (core : Core) (memory out made : List ℕ) (marks : core .marks ≡ card .core .marks) (room : BLOCK + CHECK ≤ length out) where
+  pub block-sent : (p : List ℕ) → 1 ≤ length p → length p ≤ BLOCK → (d : Core) (q : List ℕ) → d ≡ core → q ≡ p
+      → returned r memory made ≡ sending card d memory (encodePacket q out)
+      → returned r memory made ≡ turned card memory out (said core (block p))
+  unfolding show wire replyOf flagged affected
+  block-sent p low high d q same-core same-payload h =
+      h
+      ∙ ap₂ (λ (x : Core) (s : List ℕ). sending card x memory (encodePacket s out)) (same-core ∙ same-marks card core marks) same-payload
+      ∙ ap (sending card _ memory) (sym (encode-done p out low high room))
 
-pub word-sent : (w : ℕ) (r : Stepped) (card : Card) (core : Core) (memory out made : List ℕ) → 514 ≤ length out
-    → returned r memory made ≡ sending card core memory (encodePacket (word32 w) out)
-    → returned r memory made ≡ turned card memory out (said core (block (word32 w)) same)
-word-sent w r card core memory out made room h =
-    let n = length-bytes 4 (bits 32 w) in
-    block-sent (word32 w) r card core memory out made (omega (arith, n)) (omega (arith, n)) room h
-
--- the same record and the same payload
-pub sent-same : (r : Stepped) (card : Card) (memory out made p q : List ℕ) (d e : Core)
-    → returned r memory made ≡ turned card memory out (said d (block p) same) → d ≡ e → p ≡ q
-    → returned r memory made ≡ turned card memory out (said e (block q) same)
-sent-same r card memory out made p q d e h i j = h ∙ ap₂ (λ (x : Core) (s : List ℕ). turned card memory out (said x (block s) same)) i j
+  pub word-sent : (bs : List Bool) → returned r memory made ≡ sending card core memory (encodePacket (bytes 4 bs) out)
+      → returned r memory made ≡ turned card memory out (said core (block (bytes 4 bs)))
+  word-sent bs h =
+      let n = length-bytes 4 bs in
+      block-sent (bytes 4 bs) (omega (arith, n)) (omega (arith, n)) core (bytes 4 bs) refl refl h

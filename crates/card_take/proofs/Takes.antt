@@ -1,47 +1,72 @@
--- Take a block: what a sound record gives the transfer, its refusals, and where it leads.
-use mathlib.Core.Path.{_≡_}
-use mathlib.Core.Bool.{true, false}
-use mathlib.Core.List.{List}
-use mathlib.Core.Option.{none, some}
+-- What the rows of a take that do not apply tell.
+use mathlib.Core.Path.{_≡_, refl, ap}
+use mathlib.Core.Bool.{Bool, true, false, cond, not}
+use mathlib.Core.List.{List, [], _∷_}
+use mathlib.Core.Option.{none}
 use Prim.Native.Nat.{ℕ, _+_, _*_, _%_, _<_, _≤_}
 use native.Mathlib.Omega.{arith}
-use borrow.Author.Tests.{eq-eqb, lt-ltb, le-ltb}
-use lib.Dec.{eqb}
+use types.Run.{OneOf, miss}
+use denote.Enum.Declared.{tagOf}
+use borrow.Author.Tests.{ltb-false}
+use lib.Dec.{ltb}
 use lib.ListN.{length}
-use Rattle.card_model.specs.declared.card.Source.{Source}
+use Rattle.card_model.specs.declared.state.Open as Open
+use Rattle.card_model.specs.declared.state.Open.{Open}
 use Rattle.card_model.specs.declared.card.Core.{Core}
-use Rattle.card_model.specs.declared.card.Card.{Card}
-use Rattle.card_model.specs.Settings.{capacity}
-use Rattle.card_model.specs.Soundness.{unsound}
+use Rattle.card_model.specs.declared.done.Flag.the-variants.{Keep}
+use Rattle.card_model.specs.Settings.{BLOCK}
+use Rattle.card_model.specs.Status.{OUT-OF-RANGE, ADDRESS-ERROR}
+use Rattle.card_model.specs.Frame.{Turn, quiet}
 use Rattle.card_model.specs.Data.{takeFrom}
-use Rattle.card_model.specs.Step.{unless, refuse, show, takeBlock, step, taken, sourceOf}
+use Rattle.card_model.specs.Step.{TAKE-ROWS, applies, refusal, blockRoom}
+use Rattle.card_refuse.specs.Rows.{rowsOf}
+use Rattle.card_model.proofs.state.Open.{the-type}
 use Rattle.card_model.proofs.Facts.{facts-sound}
-use Rattle.card_open.proofs.Calls.{sized, world}
+use Rattle.card_refuse.proofs.Passed.{passed, sized}
 use Rattle.card_take.specs.Takes.{Takes}
 
 -- a read that stays in its block stays in the card
-pub inside : (a n b : ℕ) → a < b * 512 → a % 512 + n ≤ 512 → a + n ≤ b * 512
+pub inside : (a n b : ℕ) → a < b * BLOCK → a % BLOCK + n ≤ BLOCK → a + n ≤ b * BLOCK
 inside a n b h k = omega arith
 
-pub takes : (c : Core) (memory out : List ℕ) → unsound c ≡ false → length memory ≡ c .settings .blocks * 512 → 514 ≤ length out → Takes c memory out
-takes c memory out sound full room =
-    let size = facts-sound c sound .0 .size in
-    record { size = sized c memory sound full; low = size .low; high = size .high; room = room }
+pub takes : (c : Core) (memory out : List ℕ) (closed : Bool)
+    → refusal TAKE-ROWS (rowsOf c (length memory) false (ltb (length out) (blockRoom c)) closed) ≡ none → Takes c memory out
+unfolding applies
+takes c memory out closed e =
+    let row = passed TAKE-ROWS (rowsOf c (length memory) false (ltb (length out) (blockRoom c)) closed) e in
+    let size = facts-sound c (row 0) .0 .size in
+    record {
+      size = sized c (length memory) (row 0) (row 1);
+      low = size .low;
+      high = size .high;
+      room = ltb-false (length out) (blockRoom c) (row 2);
+    }
 
-module _ (card : Card) (memory out : List ℕ) (sound : unsound (card .core) ≡ false) (full : length memory ≡ capacity (card .core .settings)) where
-  fits : eqb (length memory) (capacity (card .core .settings)) ≡ true
-  fits = eq-eqb (length memory) (capacity (card .core .settings)) full
+-- ---- the bit that holds a read, by its two tests
 
-  pub take-4 : length out < 514 → step (world card memory) (takeBlock out) ≡ refuse (world card memory) out 4
-  unfolding step taken unless
-  take-4 l = rw (sound, fits, lt-ltb (length out) 514 l)
+abbrev pub bitOf : Bool → Bool → ℕ
+bitOf o x = cond o OUT-OF-RANGE (cond x ADDRESS-ERROR 0)
 
-  module _ (room : 514 ≤ length out) where
-    pub take-5 : sourceOf (card .core .bus .state) ≡ none → step (world card memory) (takeBlock out) ≡ refuse (world card memory) out 5
-    unfolding step taken unless
-    take-5 e = rw (sound, fits, le-ltb (length out) 514 room, e)
+pub holds : (o x : Bool) (n : ℕ) (f : ℕ → Turn) (t : Turn) → n ≡ bitOf o x → (n ≡ 0 → ⊥)
+    → f n ≡ cond o (f OUT-OF-RANGE) (cond x (f ADDRESS-ERROR) t)
+holds true x n f t h k = ap f h
+holds false true n f t h k = ap f h
+holds false false n f t h k = absurd (k h)
 
-    pub take-on : (k : Source) → sourceOf (card .core .bus .state) ≡ some k
-        → step (world card memory) (takeBlock out) ≡ show (world card memory) out (takeFrom k (card .core) memory)
-    unfolding step taken unless
-    take-on k e = rw (sound, fits, le-ltb (length out) 514 room, e)
+pub in-range : (o x : Bool) (n : ℕ) → n ≡ bitOf o x → n ≡ 0 → o ≡ false
+in-range true x n h k = absurd (omega arith)
+in-range false x n h k = refl
+
+pub in-block : (o x : Bool) (n : ℕ) → n ≡ bitOf o x → n ≡ 0 → x ≡ false
+in-block true x n h k = absurd (omega arith)
+in-block false true n h k = absurd (omega arith)
+in-block false false n h k = refl
+
+-- ---- where no read is open
+
+pub unread : (q : Open) → OneOf (0 ∷ 2 ∷ 3 ∷ []) (tagOf the-type q) → (c : Core) (memory : List ℕ) → takeFrom q c memory ≡ quiet c Keep
+unfolding takeFrom
+unread Open.Nothing h c memory = refl
+unread (Open.Read s) h c memory = absurd (miss (0 ∷ 2 ∷ 3 ∷ []) 1 tt h)
+unread (Open.Write s) h c memory = refl
+unread (Open.Busy s) h c memory = refl

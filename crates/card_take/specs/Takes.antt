@@ -3,10 +3,12 @@ use mathlib.Core.List.{List}
 use Prim.Native.Nat.{ℕ, _≤_}
 use lib.ListN.{length}
 use Rattle.card_model.specs.declared.card.Core.{Core}
-use Rattle.card_open.specs.Turned.{Sized}
+use Rattle.card_model.specs.Settings.{BLOCK}
+use Rattle.card_model.specs.Step.{blockRoom}
+use Rattle.card_refuse.specs.Rows.{Sized}
 
 pub record Takes (c : Core) (memory out : List ℕ) : Type 0 where
-  pub size : Sized c memory
+  pub size : Sized c (length memory)
   pub low : 1 ≤ c .length
-  pub high : c .length ≤ 512
-  pub room : 514 ≤ length out
+  pub high : c .length ≤ BLOCK
+  pub room : blockRoom c ≤ length out

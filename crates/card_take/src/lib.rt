@@ -7,29 +7,38 @@ mod turn;
 
 use card_call::Stepped;
 use card_call::refused;
+use card_model::answer::Answer;
 use card_model::card::Card;
-use card_open::Opening;
+use card_model::state::Open;
+use card_refuse::refusal;
+use card_refuse::rows;
+use card_settings::BLOCK;
+use wire_packet::CHECK;
 
 pub fn take(card: Card, memory: &[u8], out: &mut [u8]) -> Stepped
     ensures { λ r. ⌜ returned r (now (memory .entry)) (now (out .exit)) ≡ stepped card (now (memory .entry)) (takeBlock (now (out .entry))) ⌝ }
 {
     let c = card.core;
-    if card_sound::unsound(c) {
-        return refused(card, 2);
-    }
-    if memory.len() as u64 != c.settings.blocks as u64 * 512 {
-        return refused(card, 3);
-    }
-    if out.len() < 514 {
-        return refused(card, 4);
-    }
     let bus = c.bus;
     let state = bus.state;
-    let open = card_open::open(state);
+    let open = card_state::open(state);
+    let room = BLOCK as usize + CHECK;
+    let r = rows(
+        c,
+        memory.len(),
+        false,
+        out.len() < room,
+        !card_state::reading(open),
+    );
+    let n = refusal(&[2, 3, 4, 5], r);
+    if n != 0 {
+        return refused(card, n);
+    }
     match open {
-        Opening::Read(s) => turn::take_from(s, card, memory, out),
-        Opening::Write(_) => refused(card, 5),
-        Opening::Busy(_) => refused(card, 5),
-        Opening::Nothing => refused(card, 5),
+        Open::Read(s) => turn::take_source(s, card, memory, out),
+        _ => Stepped {
+            answer: Answer::Silence,
+            card: card,
+        },
     }
 }

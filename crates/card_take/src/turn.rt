@@ -1,52 +1,54 @@
 // Take a block from an open read transfer: a block of memory, the marks, or a register.
 ghost use mathlib.Core.Path.{_≡_};
 ghost use mathlib.Core.Bool.{true, false, cond};
-ghost use Rattle.card_model.specs.declared.card.Source.the-variants.{Blocks};
-ghost use Rattle.card_model.specs.declared.card.State.the-variants.{Data, Tran};
-ghost use Rattle.card_model.specs.Record.{withState};
-ghost use Rattle.card_model.specs.Data.{takeFrom};
-ghost use Rattle.card_call.specs.Seen.{returned};
-ghost use Rattle.card_open.specs.Turned.{turned};
+ghost use Rattle.card_model.specs.declared.state.Source.the-variants.{Blocks};
+ghost use Rattle.card_model.specs.declared.state.State.the-variants.{Data, Tran};
+ghost use Rattle.card_model.specs.Status.{OUT-OF-RANGE, ADDRESS-ERROR};
+ghost use Rattle.card_model.specs.Checks.{outside, crossing};
+ghost use Rattle.card_model.specs.Data.{takeSource};
+ghost use Rattle.card_call.specs.Seen.{returned, turned};
 ghost use Rattle.card_take.specs.Takes.{Takes};
 use card_call::Stepped;
-use card_call::answered;
 use card_model::answer::Answer;
 use card_model::card::Card;
-use card_model::card::Core;
-use card_model::card::Source;
-use card_model::card::State;
-use card_record::raise;
-use card_record::with_state;
+use card_model::state::Source;
+use card_model::state::State;
+use card_send::hold;
 use card_send::send;
+use card_send::send_marks;
+use card_send::send_scr;
+use card_send::send_status;
 use card_send::send_word;
-use card_status::address_error;
-use card_status::out_of_range;
+use card_settings::BLOCK;
+use card_settings::capacity;
+use card_status::ADDRESS_ERROR;
+use card_status::OUT_OF_RANGE;
 
-// A held transfer is silent until it is ended.
-fn hold(core: Core, multiple: bool, address: u32) -> Core
-    ensures { λ r. ⌜ r ≡ withState core (Data (Blocks multiple address true)) ⌝ }
+// The bit that holds a read: past the end, or across a boundary; 0 where none does.
+fn hold_bit(top: u64, length: u16, address: u32) -> u8
+    ensures { λ r. ⌜ r ≡ cond (outside top address) OUT-OF-RANGE (cond (crossing length address) ADDRESS-ERROR 0) ⌝ }
 {
-    let source = Source::Blocks {
-        multiple: multiple,
-        address: address,
-        held: true,
-    };
-    with_state(core, State::Data(source))
+    if top <= address as u64 {
+        return OUT_OF_RANGE;
+    }
+    if address % BLOCK + length as u32 > BLOCK {
+        return ADDRESS_ERROR;
+    }
+    0
 }
 
 // 18 goes on behind the block, 17 returns to tran.
-fn behind(core: Core, multiple: bool, address: u32) -> Core
-    ensures { λ r. ⌜ r ≡ withState core (cond multiple (Data (Blocks true address false)) Tran) ⌝ }
+fn behind(multiple: bool, address: u32) -> State
+    ensures { λ r. ⌜ r ≡ cond multiple (Data (Blocks true address false)) Tran ⌝ }
 {
     if multiple {
-        let source = Source::Blocks {
+        return State::Data(Source::Blocks {
             multiple: true,
             address: address,
             held: false,
-        };
-        return with_state(core, State::Data(source));
+        });
     }
-    with_state(core, State::Tran)
+    State::Tran
 }
 
 // 17 and 18.
@@ -61,57 +63,44 @@ fn take_blocks(
     requires { ⌜ Takes (card .core) (now memory) (now out) ⌝ }
     ensures { λ r.
         ⌜ returned r (now (memory .entry)) (now (out .exit))
-        ≡ turned card (now (memory .entry)) (now (out .entry)) (takeFrom (Blocks multiple address held) (card .core) (now (memory .entry))) ⌝ }
+        ≡ turned card (now (memory .entry)) (now (out .entry)) (takeSource (Blocks multiple address held) (card .core) (now (memory .entry))) ⌝ }
 {
-    let c = card.core;
     if held {
-        return answered(card, c, Answer::Silence);
+        return Stepped {
+            answer: Answer::Silence,
+            card: card,
+        };
     }
-    if c.settings.blocks * 512 <= address {
-        return answered(
-            card,
-            hold(raise(c, out_of_range()), multiple, address),
-            Answer::Silence,
-        );
-    }
-    let length = c.length as u32;
-    if address % 512 + length > 512 {
-        return answered(
-            card,
-            hold(raise(c, address_error()), multiple, address),
-            Answer::Silence,
-        );
+    let length = card.core.length;
+    let bit = hold_bit(capacity(card.core.settings.blocks), length, address);
+    if bit != 0 {
+        return hold(card, bit, multiple, address);
     }
     let start = address as usize;
     let end = start + length as usize;
-    let next = behind(c, multiple, address + length);
-    send(card, next, &memory[start..end], out)
+    send(
+        card,
+        behind(multiple, address + length as u32),
+        &memory[start..end],
+        out,
+    )
 }
 
-pub(crate) fn take_from(source: Source, card: Card, memory: &[u8], out: &mut [u8]) -> Stepped
+pub(crate) fn take_source(source: Source, card: Card, memory: &[u8], out: &mut [u8]) -> Stepped
     requires { ⌜ Takes (card .core) (now memory) (now out) ⌝ }
     ensures { λ r.
         ⌜ returned r (now (memory .entry)) (now (out .exit))
-        ≡ turned card (now (memory .entry)) (now (out .entry)) (takeFrom source (card .core) (now (memory .entry))) ⌝ }
+        ≡ turned card (now (memory .entry)) (now (out .entry)) (takeSource source (card .core) (now (memory .entry))) ⌝ }
 {
-    let c = card.core;
     match source {
         Source::Blocks {
             multiple,
             address,
             held,
         } => take_blocks(card, memory, out, multiple, address, held),
-        Source::WriteProtect { address } => {
-            send_word(card, card_protect::mark_word(c, address), out)
-        }
-        Source::SdStatus => {
-            let payload: [u8; 64] = [0; 64];
-            send(card, with_state(c, State::Tran), &payload, out)
-        }
-        Source::WrittenBlocks => send_word(card, c.written, out),
-        Source::Scr => {
-            let payload: [u8; 8] = [2, 1, 0, 0, 0, 0, 0, 0];
-            send(card, with_state(c, State::Tran), &payload, out)
-        }
+        Source::WriteProtect { address } => send_marks(card, address, out),
+        Source::SdStatus => send_status(card, out),
+        Source::WrittenBlocks => send_word(card, card.core.written, out),
+        Source::Scr => send_scr(card, out),
     }
 }

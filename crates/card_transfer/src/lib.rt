@@ -1,5 +1,103 @@
-// The commands that only move the card, and those that open a transfer or change protection, with their start checks.
-pub mod checks;
-pub mod moves;
-pub mod ran;
-pub mod transfer;
+// The commands that open a transfer, set its block length, or change protection.
+ghost use mathlib.Core.Path.{_≡_};
+ghost use Rattle.card_model.specs.declared.state.Source.the-variants.{WriteProtect};
+ghost use Rattle.card_model.specs.declared.state.State.the-variants.{Data};
+ghost use Rattle.card_model.specs.declared.done.Response.the-variants.{R1};
+ghost use Rattle.card_model.specs.Settings.{capacity};
+ghost use Rattle.card_model.specs.Checks.{addressChecks};
+ghost use Rattle.card_model.specs.Execute.{ran, opening, checked, setBlocklen, readBlocks, writeBlocks, setMark};
+use card_model::card::Core;
+use card_model::command::Command;
+use card_model::done::Done;
+use card_model::done::Effect;
+use card_model::done::Response;
+use card_model::state::Source;
+use card_model::state::State;
+use card_protect::group_of;
+use card_protect::guarded;
+use card_protect::whole;
+use card_record::raise;
+use card_record::with_length;
+use card_record::with_written;
+use card_settings::BLOCK;
+use card_settings::capacity;
+use card_start::checks::address_check;
+use card_start::checks::checked;
+use card_start::checks::read_check;
+use card_start::checks::write_check;
+use card_start::done::ran;
+use card_start::moves::moved;
+use card_start::moves::opening;
+use card_state::sink;
+use card_status::BLOCK_LEN_ERROR;
+
+pub fn set_blocklen(c: Core, argument: u32) -> Done
+    ensures { λ r. ⌜ r ≡ setBlocklen c argument ⌝ }
+{
+    if argument < 1 {
+        return ran(raise(c, BLOCK_LEN_ERROR), Response::R1);
+    }
+    if argument > BLOCK {
+        return ran(raise(c, BLOCK_LEN_ERROR), Response::R1);
+    }
+    ran(with_length(c, argument as u16), Response::R1)
+}
+
+// A13, A22 and A51, and what the other reads open.
+pub fn send(command: Command, c: Core, source: Source) -> Done
+    ensures { λ r. ⌜ r ≡ ran (opening command c (Data source)) R1 ⌝ }
+{
+    ran(opening(command, c, State::Data(source)), Response::R1)
+}
+
+pub fn read_blocks(command: Command, c: Core, multiple: bool, address: u32) -> Done
+    ensures { λ r. ⌜ r ≡ readBlocks command c multiple address ⌝ }
+{
+    let bit = read_check(capacity(c.settings.blocks), c.length, address);
+    let source = Source::Blocks {
+        multiple: multiple,
+        address: address,
+        held: false,
+    };
+    checked(c, bit, send(command, c, source))
+}
+
+pub fn write_blocks(command: Command, c: Core, multiple: bool, address: u32) -> Done
+    ensures { λ r. ⌜ r ≡ writeBlocks command c multiple address ⌝ }
+{
+    let all = whole(c.settings.permanent, c.settings.temporary);
+    let marks = c.marks;
+    let wp = guarded(all, &marks, address);
+    let bit = write_check(capacity(c.settings.blocks), c.length, wp, address);
+    let t = State::Rcv(sink(multiple, address, false));
+    let next = with_written(opening(command, c, t), 0);
+    checked(c, bit, ran(next, Response::R1))
+}
+
+// 28 and 29.
+pub fn set_mark(command: Command, c: Core, value: bool, address: u32) -> Done
+    ensures { λ r. ⌜ r ≡ setMark command c value address ⌝ }
+{
+    let bit = address_check(capacity(c.settings.blocks), address);
+    let done = Done {
+        core: moved(command, c),
+        response: Response::R1,
+        effect: Effect::Protect {
+            group: group_of(address),
+            value: value,
+        },
+    };
+    checked(c, bit, done)
+}
+
+// 30.
+pub fn send_write_prot(c: Core, address: u32) -> Done
+    ensures { λ r.
+        ⌜ r
+        ≡ checked c (addressChecks (capacity (c .settings)) address)
+        (ran (opening Command.SendWriteProt c (Data (WriteProtect address))) R1) ⌝ }
+{
+    let bit = address_check(capacity(c.settings.blocks), address);
+    let source = Source::WriteProtect { address: address };
+    checked(c, bit, send(Command::SendWriteProt, c, source))
+}

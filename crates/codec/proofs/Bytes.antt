@@ -3,16 +3,16 @@ use mathlib.Core.Path.{_≡_, refl, sym, ap, ap₂, _∙_}
 use mathlib.Core.Bool.{Bool}
 use mathlib.Core.List.{List, [], _∷_, _++_, append-nil}
 use Prim.Native.Nat.{ℕ, zero, suc, _+_, _-_, _*_, _/_, _%_, _^_, _<_, _≤_, min}
-use native.Mathlib.Nat.{mod-lt, mod-eq-of-lt, add-comm, div-one, zero-min, min-zero, suc-min-suc}
+use native.Mathlib.Nat.{zero-mod, mod-eq-of-lt, add-comm, div-one, zero-min, min-zero, suc-min-suc}
 use native.Mathlib.Numerals.{add-one}
 use native.Mathlib.Omega.{arith}
-use lib.Bits.{bitAnd, bitOr, or-shifted, and-mask}
+use lib.Bits.{bitAnd, bitOr, and-mask}
 use lib.ListN.{length, getD, take, drop, set, length-set, length-append, length-drop}
-use lib.Pow.{pow-pos, high, low, mod-pow-add, mod-mod-pow, shr-shr}
+use lib.Pow.{mod-mod-pow, shr-shr}
 use lib.Seq.{take-suc, drop-cons, getD-set-same, drop-set-lt, take-all, lt-length-set, drop-length, drop-nil, set-at, append-snoc, length-take-le}
 use Rattle.crc.specs.Bits.{bits, number, bitsOf, bytes}
 use Rattle.crc.proofs.Bits.{bitsOf-append, number-append, number-bits, length-bits, bits-split, bytes-append}
-use Rattle.codec.proofs.Masks.{shifted}
+use Rattle.codec.proofs.Masks.{placed, or-placed}
 
 -- ---- reading
 
@@ -26,19 +26,35 @@ one-more s i h b =
     ∙ ap (λ (q : List Bool). number (bitsOf (take i s)) * 2 ^ length q + number q) (append-nil (bits 8 (getD s i 0)))
     ∙ ap₂ (λ (k n : ℕ). number (bitsOf (take i s)) * 2 ^ k + n) (length-bits 8 (getD s i 0)) (number-bits 8 (getD s i 0) ∙ mod-eq-of-lt b)
 
-joined-byte : (n b : ℕ) → b < 2 ^ 8 → bitOr (n % 2 ^ 64 * 2 ^ 8 % 2 ^ 64) b ≡ (n * 2 ^ 8 + b) % 2 ^ 64
-joined-byte n b h =
-    ap (λ (x : ℕ). bitOr x b) (shifted (n % 2 ^ 64) 56 8)
-    ∙ or-shifted (n % 2 ^ 64 % 2 ^ 56) 8 b h
-    ∙ ap (λ (x : ℕ). x * 2 ^ 8 + b) (mod-mod-pow n 8 56)
-    ∙ sym (mod-pow-add (n * 2 ^ 8 + b) 56 8 ∙ ap₂ (λ (x y : ℕ). x % 2 ^ 56 * 2 ^ 8 + y) (high n 8 h) (low n 8 h))
+-- the loop's head: of a run of bytes the first i are read, into a word of m + 8 bits
+pub record Passed (m : ℕ) (s : List ℕ) (r i : ℕ) : Type 0 where
+  pub within : i ≤ length s
+  pub value : r ≡ number (bitsOf (take i s)) % 2 ^ (m + 8)
 
-pub byte-read : (s : List ℕ) (i r : ℕ) → i < length s → getD s i 0 < 256 → r ≡ number (bitsOf (take i s)) % 2 ^ 64
-    → bitOr (r * 2 ^ 8 % 2 ^ 64) (getD s i 0) ≡ number (bitsOf (take (i + 1) s)) % 2 ^ 64
-byte-read s i r h b e =
-    ap (λ (x : ℕ). bitOr (x * 2 ^ 8 % 2 ^ 64) (getD s i 0)) e
-    ∙ joined-byte (number (bitsOf (take i s))) (getD s i 0) b
-    ∙ ap (λ (x : ℕ). x % 2 ^ 64) (sym (one-more s i h b))
+module _ (m : ℕ) (s : List ℕ) where
+  pub passed-none : Passed m s 0 0
+  unfolding number bitsOf
+  passed-none = record { within = omega arith; value = sym (zero-mod (2 ^ (m + 8))) }
+
+  pub passed-more : (r i : ℕ) → i < length s → getD s i 0 < 256 → Passed m s r i
+      → Passed m s (bitOr (r * 2 ^ 8 % 2 ^ (m + 8)) (getD s i 0)) (i + 1)
+  passed-more r i h b p =
+      let n : ℕ = number (bitsOf (take i s)) in
+      let x : ℕ = getD s i 0 in
+      record {
+        within = omega arith;
+        value =
+            or-placed m 8 r x b
+            ∙ placed m 8 r x b
+            ∙ ap (λ (y : ℕ). y % 2 ^ m * 2 ^ 8 + x) (p .value)
+            ∙ ap (λ (k : ℕ). n % 2 ^ k % 2 ^ m * 2 ^ 8 + x) (add-comm m 8)
+            ∙ ap (λ (y : ℕ). y * 2 ^ 8 + x) (mod-mod-pow n 8 m)
+            ∙ sym (placed m 8 n x b)
+            ∙ ap (λ (y : ℕ). y % 2 ^ (m + 8)) (sym (one-more s i h b));
+      }
+
+  pub passed-all : (r i : ℕ) → length s ≤ i → Passed m s r i → r ≡ number (bitsOf s) % 2 ^ (m + 8)
+  passed-all r i h p = p .value ∙ ap (λ (l : List ℕ). number (bitsOf l) % 2 ^ (m + 8)) (take-all i s h)
 
 -- ---- writing
 

@@ -16,7 +16,7 @@ use Rattle.crc.proofs.Register.{length-crc}
 use Rattle.codec.specs.Answer.{done, refused, SIZE, WRONG}
 use Rattle.codec.specs.Layout.{width, write, read, fits, judged, blank, kept}
 use Rattle.codec.specs.Format.{Ending, bare, crc7From, Format, endWidth, sized, ended, image, right, decode}
-use Rattle.codec.specs.RoundTrip.{RoundTrip}
+use Rattle.codec.specs.RoundTrip.{FormatsRoundTrip}
 use Rattle.codec.proofs.Bits.{both, same-eq, same-true}
 use Rattle.codec.proofs.Slots.{length-write, read-write, judged-write, write-read, fits-read}
 use Rattle.codec.proofs.Kept.{read-kept, kept-read}
@@ -148,7 +148,7 @@ module _ (f : Format) (fill : T (sized f)) where
 
 -- ---- the laws together: every format whose slots and check fill its bytes has them
 
-pub round-trip : (f : Format) → T (sized f) → RoundTrip f
+pub round-trip : FormatsRoundTrip
 round-trip f fill = record {
   decode-encode = decode-image f fill;
   decoded-fits = decode-fits f fill;

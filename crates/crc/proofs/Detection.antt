@@ -13,6 +13,7 @@ use Rattle.crc.specs.Bits.{bits}
 use Rattle.crc.specs.Crc.{_⊕_, shift, crc, clear, poly7, poly16}
 use Rattle.crc.specs.Altered.{count, Reach, scattered, neighbours, Altered}
 use Rattle.crc.specs.Detection.{Right, same, unit, odd, top, apart, suits, Detects}
+use Rattle.crc.specs.Claims.{SuitsDetects, Poly7Detects, Poly16Detects}
 use Rattle.crc.proofs.Xor.{xor-self, xor-zeros, xor-cancel, length-xor}
 use Rattle.crc.proofs.Register.{turns-zeros, run-turns, crc-append, length-clear, length-crc, crc-xor}
 use Rattle.crc.proofs.Clear.{unit-wide, run-clear, within-clear, burst-clear, pair-clear, apart-turns}
@@ -88,16 +89,19 @@ module _ (p : List Bool) (n few : ℕ) (s : T (suits p n few)) where
       let c : crc p (f ⊕ g) ≡ clear p = cc (xor-zeros (clear p) (length p) (omega (arith, length-clear p))) in
       seen (f ⊕ g) (omega (arith, length-xor f g w)) (a .differs) (a .reach) c
 
-  pub detects : Detects p (suc n) few
-  detects f g l rf a rg = apart-words f g l a (clears f rf) (clears g rg)
+  found : Detects p (suc n) few
+  found f g l rf a rg = apart-words f g l a (clears f rf) (clears g rg)
     where
       clears : (f : List Bool) → Right p f → crc p f ≡ clear p
       clears f r = ap (crc p) (r .checked) ∙ zero-right p (r .message) (unit-wide p (computed .0))
 
-pub poly7-detects : Detects poly7 47 2
-unfolding suits unit apart same top shift _⊕_ odd poly7 bits xor
-poly7-detects = detects poly7 46 2 tt
+pub suits-detects : SuitsDetects
+suits-detects = found
 
-pub poly16-detects : Detects poly16 4112 3
+pub poly7-detects : Poly7Detects
+unfolding suits unit apart same top shift _⊕_ odd poly7 bits xor
+poly7-detects = suits-detects poly7 46 2 tt
+
+pub poly16-detects : Poly16Detects
 unfolding suits unit apart same top shift _⊕_ odd poly16 bits xor
-poly16-detects = detects poly16 4111 3 tt
+poly16-detects = suits-detects poly16 4111 3 tt

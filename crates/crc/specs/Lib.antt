@@ -1,5 +1,6 @@
--- What a reader must believe of the checks: bits in the order sent, the check itself, and what damage is.
+-- What a reader must believe of the checks: bits in the order sent, the check itself, what damage is, and what is claimed.
 pub mod Bits
 pub mod Crc
 pub mod Altered
 pub mod Detection
+pub mod Claims

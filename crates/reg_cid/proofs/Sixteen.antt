@@ -7,9 +7,9 @@ use native.Mathlib.Nat.{mod-mod}
 use native.Mathlib.Omega.{arith}
 use borrow.Author.Tests.{eq-eqb, ne-eqb, eqb-true, eqb-false, lt-ltb, le-ltb}
 use lib.Dec.{eqb, lit≤}
-use lib.ListN.{length, getD, take, drop, set, length-append, length-drop, length-set, drop-of-length-le}
+use lib.ListN.{length, getD, take, drop, set, length-append, length-drop, drop-of-length-le}
 use lib.Pow.{mod-mod-pow}
-use lib.Seq.{take-at, drop-at, set-at, drop-cons, drop-drop, length-take-le, take-append-le, drop-append-le}
+use lib.Seq.{take-at, take-all, drop-at, set-at, drop-cons, drop-drop, length-take-le, take-append-le, drop-append-le}
 use Rattle.crc.specs.Bits.{bits, number, bitsOf, bytes}
 use Rattle.crc.specs.Crc.{crc, poly7}
 use Rattle.crc.proofs.Bits.{length-bits, length-bytes, bytes-append, bits-cong}
@@ -63,12 +63,8 @@ module _ (first rest : ℕ) where
       let e : write (field 64 ∷ (field 56 ∷ [])) (first ∷ (rest ∷ [])) ≡ content first rest = ap (λ (x : List Bool). bits 64 first ++ x) (append-nil (bits 56 rest)) in
       rw e at (image-ended (checked (field 64 ∷ (field 56 ∷ []))) (first ∷ (rest ∷ [])) 15 0 c refl refl refl (lit≤ tt) h (rw e seal))
 
-length-sixteen : (first rest : ℕ) → length (sixteen first rest) ≡ 16
-unfolding sixteen
-length-sixteen first rest = length-bytes 16 (content first rest ++ ended (crc7From 0) (content first rest))
-
--- the buffer with the first word's bytes p stored, then with the second's bytes q, then with the check c
-module _ (out p q : List ℕ) (first rest c : ℕ) (room : 17 ≤ length out) where
+-- sixteen bytes with the first word's bytes p stored, then with the second's bytes q, then with the check c
+module _ (out p q : List ℕ) (first rest c : ℕ) (room : length out ≡ 16) where
   abbrev once : List ℕ
   once = p ++ drop 8 out
 
@@ -98,45 +94,43 @@ module _ (out p q : List ℕ) (first rest c : ℕ) (room : 17 ≤ length out) wh
     length-both : length (p ++ q) ≡ 15
     length-both = ap length both-are ∙ length-bytes 15 (content first rest)
 
-    twice-is : twice ≡ (p ++ q) ++ getD out 15 0 ∷ drop 16 out
+    twice-is : twice ≡ (p ++ q) ++ getD out 15 0 ∷ []
     twice-is =
         ap₂ (λ (x y : List ℕ). x ++ (q ++ y)) (take-at p (drop 8 out) 8 length-p)
-        (ap (drop 7) past ∙ drop-drop 7 8 out ∙ drop-cons out 15 0 (omega arith))
-        ∙ sym (append-assoc p q (getD out 15 0 ∷ drop 16 out))
+        (ap (drop 7) past
+        ∙ drop-drop 7 8 out
+        ∙ drop-cons out 15 0 (omega arith)
+        ∙ ap (λ (l : List ℕ). getD out 15 0 ∷ l) (drop-of-length-le out {i = 16} (omega arith)))
+        ∙ sym (append-assoc p q (getD out 15 0 ∷ []))
 
-    pub length-sealed : length (set twice 15 c) ≡ length out
-    length-sealed = length-set twice 15 c ∙ ap length twice-is ∙ length-append (p ++ q) (getD out 15 0 ∷ drop 16 out) ∙ omega (arith, length-both, length-drop 16 out)
+    pub length-twice : length twice ≡ 16
+    length-twice = ap length twice-is ∙ length-append (p ++ q) (getD out 15 0 ∷ []) ∙ omega (arith, length-both)
 
-    whole : c < 256 → bits 8 c ≡ crc poly7 (bitsOf (take 15 twice)) ++ (true ∷ []) → set twice 15 c ≡ sixteen first rest ++ drop 16 out
-    whole h e =
-        let t : take 15 twice ≡ bytes 15 (content first rest) = ap (take 15) twice-is ∙ take-at (p ++ q) (getD out 15 0 ∷ drop 16 out) 15 length-both ∙ both-are in
-        ap (λ (l : List ℕ). set l 15 c) twice-is
-        ∙ set-at (p ++ q) (getD out 15 0) (drop 16 out) c 15 length-both
-        ∙ ap (λ (l : List ℕ). l ++ c ∷ drop 16 out) both-are
-        ∙ sym (append-assoc (bytes 15 (content first rest)) (c ∷ []) (drop 16 out))
-        ∙ ap (λ (l : List ℕ). l ++ drop 16 out) (sym (sixteen-sealed first rest c h (rw t at e)))
-
-    pub sealed : c < 256 → bits 8 c ≡ crc poly7 (bitsOf (take 15 twice)) ++ (true ∷ [])
-        → _≡_ {A = Encoding} (record { answer = done 16; buffer = set twice 15 c }) (emit (sixteen first rest) out)
+    pub sealed : c < 256 → bits 8 c ≡ crc poly7 (bitsOf (take 15 twice)) ++ (true ∷ []) → set twice 15 c ≡ sixteen first rest
     sealed h e =
-        ap (λ (l : List ℕ). record { answer = done 16; buffer = l }) (whole h e)
-        ∙ ap (λ (k : ℕ). record { answer = done k; buffer = sixteen first rest ++ drop k out }) (sym (length-sixteen first rest))
+        let t : take 15 twice ≡ bytes 15 (content first rest) =
+        ap (take 15) twice-is ∙ take-at (p ++ q) (getD out 15 0 ∷ []) 15 length-both ∙ both-are in
+        ap (λ (l : List ℕ). set l 15 c) twice-is
+        ∙ set-at (p ++ q) (getD out 15 0) [] c 15 length-both
+        ∙ ap (λ (l : List ℕ). l ++ (c ∷ [])) both-are
+        ∙ sym (sixteen-sealed first rest c h (rw t at e))
 
--- two words stored one behind the other in fifteen bytes
-pub fifteen-stored : (out p q : List ℕ) (first rest : ℕ) → length out ≡ 15
-    → p ≡ bytes (length (take 8 out)) (bits (8 * length (take 8 out)) first)
-    → q ≡ bytes (length (take 7 (drop 8 (p ++ drop 8 out)))) (bits (8 * length (take 7 (drop 8 (p ++ drop 8 out)))) rest)
-    → take 8 (p ++ drop 8 out) ++ (q ++ drop 7 (drop 8 (p ++ drop 8 out))) ≡ bytes 15 (content first rest)
-fifteen-stored out p q first rest h hp hq =
-    let ep : p ≡ bytes 8 (bits 64 first) = filled 8 first p (take 8 out) (length-take-le 8 out (omega arith)) hp in
-    let lp : length p ≡ 8 = ap length ep ∙ length-bytes 8 (bits 64 first) in
-    let past : drop 8 (p ++ drop 8 out) ≡ drop 8 out = drop-at p (drop 8 out) 8 lp in
-    let eq : q ≡ bytes 7 (bits 56 rest) = filled 7 rest q (take 7 (drop 8 (p ++ drop 8 out)))
-    (ap (λ (l : List ℕ). length (take 7 l)) past ∙ length-take-le 7 (drop 8 out) (omega (arith, length-drop 8 out))) hq in
-    ap₂ (λ (x y : List ℕ). x ++ (q ++ y)) (take-at p (drop 8 out) 8 lp)
-    (ap (drop 7) past ∙ drop-drop 7 8 out ∙ drop-of-length-le out {i = 15} (omega arith))
-    ∙ ap₂ (λ (x y : List ℕ). x ++ y) ep (append-nil q ∙ eq)
-    ∙ sym (bytes-content first rest)
+pub sixteen-image : (slots : List Slot) (vs : List ℕ) (first rest : ℕ) → content first rest ≡ write slots vs
+    → sixteen first rest ≡ image (checked slots) vs
+unfolding sixteen image
+sixteen-image slots vs first rest e = ap (λ (x : List Bool). bytes 16 (x ++ ended (crc7From 0) x)) e
+
+-- what `copy` makes of a buffer with the sixteen bytes s, and the answer with it
+pub copied : (s out mid : List ℕ) → length s ≡ 16 → 17 ≤ length out → mid ≡ take (length (take 16 out)) s ++ drop (length s) (take 16 out)
+    → _≡_ {A = Encoding} (record { answer = done 16; buffer = mid ++ drop 16 out }) (emit s out)
+copied s out mid h room e =
+    let l : length (take 16 out) ≡ 16 = length-take-le 16 out (omega arith) in
+    let m : mid ≡ s =
+    e
+    ∙ ap₂ (λ (x y : List ℕ). x ++ y) (take-all (length (take 16 out)) s (omega arith))
+    (drop-of-length-le (take 16 out) {i = length s} (omega arith))
+    ∙ append-nil s in
+    ap₂ (λ (l : List ℕ) (k : ℕ). record { answer = done k; buffer = l ++ drop k out }) m (sym h)
 
 -- ---- what is emitted
 

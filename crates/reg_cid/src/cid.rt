@@ -1,9 +1,8 @@
 // CID: the card identification register.
 ghost use mathlib.Core.Path.{_≡_};
-ghost use Rattle.crc.specs.Bits.{bytes};
 ghost use Rattle.codec.specs.Answer.{encoding};
 ghost use Rattle.codec.specs.Layout.{fits, write, read};
-ghost use Rattle.codec.specs.Format.{encode, decode};
+ghost use Rattle.codec.specs.Format.{image, encode, decode};
 ghost use Rattle.reg_cid.specs.Content.{content};
 ghost use Rattle.reg_cid.specs.Cid.{cid, cidValues, cidRead};
 use crate::content::Words;
@@ -57,11 +56,11 @@ pub fn encode(c: Cid, out: &mut [u8]) -> Encoded
     crate::content::emit(fit(c), words(c), out)
 }
 
-// The content that an R2 carries.
-pub fn fifteen(c: Cid) -> [u8; 15]
-    ensures { λ r. ⌜ r ≡ bytes 15 (write (cid .slots) (cidValues c)) ⌝ }
+// The register as an R2 carries it.
+pub fn sixteen(c: Cid) -> [u8; 16]
+    ensures { λ r. ⌜ r ≡ image cid (cidValues c) ⌝ }
 {
-    crate::content::fifteen(words(c))
+    crate::content::sixteen(words(c))
 }
 
 // The fields of two words of content.

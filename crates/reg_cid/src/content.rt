@@ -1,9 +1,9 @@
 // What the registers share: a flag or a byte as a word, and the sixteen bytes of CID and CSD, which are two words of
 // content and a byte of check and end bit.
 ghost use mathlib.Core.Path.{_≡_};
-ghost use Rattle.crc.specs.Bits.{digit, bytes};
+ghost use Rattle.crc.specs.Bits.{digit};
 ghost use Rattle.codec.specs.Answer.{encoding};
-ghost use Rattle.reg_cid.specs.Content.{content, emitted, verdict};
+ghost use Rattle.reg_cid.specs.Content.{sixteen, emitted, verdict};
 use codec::Encoded;
 
 // 64 and 56 bits of content.
@@ -24,6 +24,17 @@ pub fn wide(n: u8) -> u64
     n as u64
 }
 
+// A register's sixteen bytes.
+pub fn sixteen(w: Words) -> [u8; 16]
+    ensures { λ r. ⌜ r ≡ sixteen (w .first) (w .rest) ⌝ }
+{
+    let mut s: [u8; 16] = [0; 16];
+    codec::put(&mut s[0..8], w.first);
+    codec::put(&mut s[8..15], w.rest);
+    s[15] = codec::seal(&s[0..15]);
+    s
+}
+
 // Rows 4 and 8, or the bytes of a register.
 pub fn emit(fits: bool, w: Words, out: &mut [u8]) -> Encoded
     ensures { λ r. ⌜ encoding r (now (out .exit)) ≡ emitted fits (w .first) (w .rest) (now (out .entry)) ⌝ }
@@ -34,20 +45,9 @@ pub fn emit(fits: bool, w: Words, out: &mut [u8]) -> Encoded
     if !fits {
         return Encoded::Refused(codec::FIELD);
     }
-    codec::put(&mut out[0..8], w.first);
-    codec::put(&mut out[8..15], w.rest);
-    out[15] = codec::seal(&out[0..15]);
+    let s = sixteen(w);
+    codec::copy(&mut out[0..16], &s);
     Encoded::Wrote(16)
-}
-
-// The fifteen bytes of two words.
-pub fn fifteen(w: Words) -> [u8; 15]
-    ensures { λ r. ⌜ r ≡ bytes 15 (content (w .first) (w .rest)) ⌝ }
-{
-    let mut s: [u8; 15] = [0; 15];
-    codec::put(&mut s[0..8], w.first);
-    codec::put(&mut s[8..15], w.rest);
-    s
 }
 
 // Rows 1 and 7, or 0 where size, check and end bit are right.

@@ -3,10 +3,10 @@ ghost use mathlib.Core.Path.{_≡_};
 ghost use mathlib.Core.List.{_++_};
 ghost use Prim.Native.Nat.{_/_, _^_};
 ghost use lib.ListN.{take, drop};
-ghost use Rattle.crc.specs.Bits.{bits, bytes};
+ghost use Rattle.crc.specs.Bits.{bits};
 ghost use Rattle.codec.specs.Answer.{encoding};
 ghost use Rattle.codec.specs.Layout.{fits, write};
-ghost use Rattle.codec.specs.Format.{encode};
+ghost use Rattle.codec.specs.Format.{image, encode};
 ghost use Rattle.reg_cid.specs.Content.{content};
 ghost use Rattle.reg_csd.specs.Csd.{csd, csdSlots, csdValues};
 use codec::Encoded;
@@ -190,9 +190,9 @@ pub fn encode(c: Csd, out: &mut [u8]) -> Encoded
     reg_cid::content::emit(fit(c), words(c), out)
 }
 
-// The content that an R2 carries.
-pub fn fifteen(c: Csd) -> [u8; 15]
-    ensures { λ r. ⌜ r ≡ bytes 15 (write (csd .slots) (csdValues c)) ⌝ }
+// The register as an R2 carries it.
+pub fn sixteen(c: Csd) -> [u8; 16]
+    ensures { λ r. ⌜ r ≡ image csd (csdValues c) ⌝ }
 {
-    reg_cid::content::fifteen(words(c))
+    reg_cid::content::sixteen(words(c))
 }

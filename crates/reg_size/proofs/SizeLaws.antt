@@ -11,6 +11,7 @@ use Rattle.codec.proofs.Bits.{both}
 use Rattle.reg_size.specs.declared.SizePair.{SizePair}
 use Rattle.reg_size.specs.declared.SizePair.the-variants.{Pair, NoPair}
 use Rattle.reg_size.specs.Size.{Gives, IsPair, divides, pairFrom, sizePair}
+use Rattle.reg_size.specs.Claims.{SizePairRight}
 use Rattle.reg_size.proofs.Search.{quotient-pos}
 
 -- ---- one multiplier
@@ -79,9 +80,9 @@ not-given n size mult d g = false≢true (sym d ∙ gives-divides n size mult g)
 
 -- ---- 01's pair
 
-pub size-pair-right : (n size mult : ℕ) → sizePair n ≡ Pair size mult → IsPair n size mult
+pair-right : (n size mult : ℕ) → sizePair n ≡ Pair size mult → IsPair n size mult
 unfolding Found
-size-pair-right n size mult e =
+pair-right n size mult e =
     let (lt, t, is, none) = found-pair n (Pair size mult) e in
     record {
       gives = rw is at (divides-gives n mult t (omega arith));
@@ -91,6 +92,9 @@ size-pair-right n size mult e =
     not-below : (m : ℕ) → (m < mult → ⊥) → mult ≤ m
     not-below m h = omega arith
 
-pub size-pair-none : (n : ℕ) → sizePair n ≡ NoPair → (size mult : ℕ) → Gives n size mult → ⊥
+pair-none : (n : ℕ) → sizePair n ≡ NoPair → (size mult : ℕ) → Gives n size mult → ⊥
 unfolding Found
-size-pair-none n e size mult g = not-given n size mult (found-pair n NoPair e mult (omega arith) (omega (arith, g .multFits))) g
+pair-none n e size mult g = not-given n size mult (found-pair n NoPair e mult (omega arith) (omega (arith, g .multFits))) g
+
+pub size-pair-right : SizePairRight
+size-pair-right = record { pair = pair-right; none = pair-none }

@@ -1,4 +1,4 @@
 // The replay program: lines on standard input, one answer line each, for 01's card of the bench.
 fn main() {
-    replay_session::run(0);
+    replay_run::run(0);
 }

@@ -1,2 +1,2 @@
--- What is told of a call.
-pub mod Told
+-- A call's answer as a line.
+pub mod Played

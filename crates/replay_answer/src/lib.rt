@@ -1,12 +1,12 @@
-// A call's record, and its answer as a line of output.
+// A call's record, and its answer as a line of output; the two calls that leave memory as it is.
 ghost use mathlib.Core.Path.{_≡_};
 ghost use mathlib.Core.List.{List};
 ghost use Prim.Native.Nat.{ℕ};
 ghost use lib.ListN.{replicate};
-ghost use Rattle.card_model.specs.Step.{answer, step, takeBlock, busyOver};
-ghost use Rattle.replay_write.specs.Write.{written};
+ghost use Rattle.card_model.specs.Step.{takeBlock, busyOver};
+ghost use Rattle.card_call.specs.Seen.{returned, stepped};
 ghost use Rattle.replay_write.specs.declared.Kind.the-variants.{Response, Block};
-ghost use Rattle.replay_answer.specs.Told.{played, shown, onText};
+ghost use Rattle.replay_answer.specs.Played.{played, shown, onText};
 use card_call::Stepped;
 use card_model::card::Card;
 use codec::Encoded;
@@ -18,14 +18,11 @@ pub struct Replayed {
     pub wrote: Encoded,
 }
 
-pub fn tell(kind: Kind, s: Stepped, out: &[u8], text: &mut [u8]) -> Replayed
+// What a call returned, with its answer on a line.
+pub fn answer_line(kind: Kind, s: Stepped, out: &[u8], text: &mut [u8]) -> Replayed
     ensures { λ r.
         ⌜ ((memory : List ℕ)
-        → shown r memory (now (text .exit))
-        ≡ onText (record {
-          world = record { card = s .card; memory = memory };
-          text = written kind (answer (s .answer)) (now (out .entry));
-        }) (now (text .entry))) ⌝ }
+        → shown r memory (now (text .exit)) ≡ onText (played kind (returned s memory (now (out .entry)))) (now (text .entry))) ⌝ }
 {
     let answer = s.answer;
     let card = s.card;
@@ -35,22 +32,22 @@ pub fn tell(kind: Kind, s: Stepped, out: &[u8], text: &mut [u8]) -> Replayed
     }
 }
 
+// The output buffer is zero before the call.
 pub fn take(card: Card, memory: &[u8], text: &mut [u8]) -> Replayed
     ensures { λ r.
         ⌜ shown r (now (memory .entry)) (now (text .exit))
-        ≡ onText (played Block (step (record { card = card; memory = now (memory .entry) }) (takeBlock (replicate 514 0))))
-        (now (text .entry)) ⌝ }
+        ≡ onText (played Block (stepped card (now (memory .entry)) (takeBlock (replicate 514 0)))) (now (text .entry)) ⌝ }
 {
     let mut out: [u8; 514] = [0; 514];
     let s = card_take::take(card, memory, &mut out);
-    tell(Kind::Block, s, &out, text)
+    answer_line(Kind::Block, s, &out, text)
 }
 
 pub fn over(card: Card, memory: &[u8], text: &mut [u8]) -> Replayed
     ensures { λ r.
         ⌜ shown r (now (memory .entry)) (now (text .exit))
-        ≡ onText (played Response (step (record { card = card; memory = now (memory .entry) }) busyOver)) (now (text .entry)) ⌝ }
+        ≡ onText (played Response (stepped card (now (memory .entry)) busyOver)) (now (text .entry)) ⌝ }
 {
     let s = card_power::busy_over(card, memory);
-    tell(Kind::Response, s, &[], text)
+    answer_line(Kind::Response, s, &[], text)
 }

@@ -9,22 +9,22 @@ use Rattle.card_model.specs.Step.{World, step, commandFrame, blockIn, takeBlock
 use Rattle.card_model.specs.declared.answer.Answer.the-variants.{Refused}
 use Rattle.card_model.specs.declared.card.Card.{Card}
 use Rattle.card_call.specs.declared.Stepped.{Stepped}
-use Rattle.card_call.specs.Seen.{returned}
+use Rattle.card_call.specs.Seen.{returned, seen}
 use Rattle.replay_read.specs.declared.Input.{Input}
 use Rattle.replay_read.specs.declared.Word.the-variants.{Cmd, Blk, Take, Over, Unreadable}
-use Rattle.replay_read.specs.Read.{Line, readLine, held, lineOf}
+use Rattle.replay_read.specs.Read.{Request, readLine, held, requestOf}
 use Rattle.replay_read.proofs.Laws.{read-laws}
 use Rattle.replay_write.specs.declared.Kind.the-variants.{Response, Block}
 use Rattle.replay_write.specs.Write.{written, refusal}
-use Rattle.replay_answer.specs.Told.{Played, Shown, told, played, onText}
+use Rattle.replay_answer.specs.Played.{Played, Shown, played, onText}
 use Rattle.replay_line.specs.Replay.{play, playLine}
 
 -- a line that cannot be read
 pub refused-by : (card : Card) (memory text : List ℕ) (s : Stepped) (a : Shown)
-    → a ≡ onText (told Response (returned s memory [])) text → s ≡ record { answer = Refused 1; card = card }
+    → a ≡ onText (played Response (returned s memory [])) text → s ≡ record { answer = Refused 1; card = card }
     → a ≡ onText (record { world = record { card = card; memory = memory }; text = refusal 1 }) text
 unfolding written
-refused-by card memory text s a p q = p ∙ ap (λ (y : Stepped). onText (told Response (returned y memory [])) text) q
+refused-by card memory text s a p q = p ∙ ap (λ (y : Stepped). onText (played Response (returned y memory [])) text) q
 
 module _ (w : World) (line text : List ℕ) where
   pub no-room : length text < 1033 → playLine w line text ≡ record { line = refuse BUFFER text; world = w }
@@ -32,32 +32,32 @@ module _ (w : World) (line text : List ℕ) where
   no-room h = rw (lt-ltb (length text) 1033 h)
 
   module _ (i : Input) (room : 1033 ≤ length text) (e : i ≡ held (readLine line)) where
-    by-line : playLine w line text ≡ onText (play w (lineOf i)) text
+    by-line : playLine w line text ≡ onText (play w (requestOf i)) text
     unfolding playLine
     by-line =
         rw (le-ltb (length text) 1033 room)
-        (ap (λ (l : Line). onText (play w l) text) (sym (ap lineOf e ∙ read-laws .whole line)))
+        (ap (λ (l : Request). onText (play w l) text) (sym (ap requestOf e ∙ read-laws .whole line)))
 
-    pub by-word : (p : Played) (a : Shown) → play w (lineOf i) ≡ p → a ≡ onText p text → a ≡ playLine w line text
+    pub by-word : (p : Played) (a : Shown) → play w (requestOf i) ≡ p → a ≡ onText p text → a ≡ playLine w line text
     by-word p a h k = k ∙ sym (by-line ∙ ap (λ (x : Played). onText x text) h)
 
 module _ (w : World) (i : Input) where
-  pub cmd-line : i .word ≡ Cmd → play w (lineOf i) ≡ played Response (step w (commandFrame (take 6 (i .bytes)) (replicate 17 0)))
-  unfolding lineOf play
+  pub cmd-line : i .word ≡ Cmd → play w (requestOf i) ≡ played Response (seen (step w (commandFrame (take 6 (i .bytes)) (replicate 17 0))))
+  unfolding requestOf play
   cmd-line h = rw h
 
-  pub blk-line : i .word ≡ Blk → play w (lineOf i) ≡ played Response (step w (blockIn (i .bytes)))
-  unfolding lineOf play
+  pub blk-line : i .word ≡ Blk → play w (requestOf i) ≡ played Response (seen (step w (blockIn (i .bytes))))
+  unfolding requestOf play
   blk-line h = rw h
 
-  pub take-line : i .word ≡ Take → play w (lineOf i) ≡ played Block (step w (takeBlock (replicate 514 0)))
-  unfolding lineOf play
+  pub take-line : i .word ≡ Take → play w (requestOf i) ≡ played Block (seen (step w (takeBlock (replicate 514 0))))
+  unfolding requestOf play
   take-line h = rw h
 
-  pub over-line : i .word ≡ Over → play w (lineOf i) ≡ played Response (step w busyOver)
-  unfolding lineOf play
+  pub over-line : i .word ≡ Over → play w (requestOf i) ≡ played Response (seen (step w busyOver))
+  unfolding requestOf play
   over-line h = rw h
 
-  pub bad-line : i .word ≡ Unreadable → play w (lineOf i) ≡ record { world = w; text = refusal 1 }
-  unfolding lineOf play
+  pub bad-line : i .word ≡ Unreadable → play w (requestOf i) ≡ record { world = w; text = refusal 1 }
+  unfolding requestOf play
   bad-line h = rw h

@@ -6,17 +6,18 @@ use lib.Dec.{ltb}
 use lib.ListN.{length, replicate}
 use Rattle.codec.specs.Answer.{BUFFER, refuse}
 use Rattle.card_model.specs.Step.{World, commandFrame, blockIn, takeBlock, busyOver, step}
-use Rattle.replay_read.specs.Read.{Line, cmd, blk, takeLine, overLine, unreadable, readLine}
+use Rattle.card_call.specs.Seen.{seen}
+use Rattle.replay_read.specs.Read.{Request, cmd, blk, bareTake, bareOver, unreadable, readLine}
 use Rattle.replay_write.specs.declared.Kind.the-variants.{Response, Block}
 use Rattle.replay_write.specs.Write.{refusal}
-use Rattle.replay_answer.specs.Told.{Played, Shown, played, onText}
+use Rattle.replay_answer.specs.Played.{Played, Shown, played, onText}
 
 -- the output buffers are zero before each call, and as long as row 4 asks for
-unfoldable pub play : World → Line → Played
-play w (cmd frame) = played Response (step w (commandFrame frame (replicate 17 0)))
-play w (blk s) = played Response (step w (blockIn s))
-play w takeLine = played Block (step w (takeBlock (replicate 514 0)))
-play w overLine = played Response (step w busyOver)
+unfoldable pub play : World → Request → Played
+play w (cmd frame) = played Response (seen (step w (commandFrame frame (replicate 17 0))))
+play w (blk s) = played Response (seen (step w (blockIn s)))
+play w bareTake = played Block (seen (step w (takeBlock (replicate 514 0))))
+play w bareOver = played Response (seen (step w busyOver))
 play w unreadable = record { world = w; text = refusal 1 }
 
 abbrev pub replayed : World → List ℕ → Played

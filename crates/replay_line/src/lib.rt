@@ -1,14 +1,14 @@
 // The replay of lines on the card: each line of input gives one call, and one line of output.
 ghost use mathlib.Core.Path.{_≡_};
-ghost use Rattle.replay_answer.specs.Told.{shown};
+ghost use Rattle.replay_answer.specs.Played.{shown};
 ghost use Rattle.replay_line.specs.Replay.{playLine};
 use card_call::refused;
 use card_model::card::Card;
 use codec::Encoded;
 use replay_answer::Replayed;
+use replay_answer::answer_line;
 use replay_answer::over;
 use replay_answer::take;
-use replay_answer::tell;
 use replay_call::block;
 use replay_call::command;
 use replay_read::Word;
@@ -33,6 +33,6 @@ pub fn play(card: Card, memory: &mut [u8], line: &[u8], text: &mut [u8]) -> Repl
         Word::Blk => block(card, memory, bytes, text),
         Word::Take => take(card, memory, text),
         Word::Over => over(card, memory, text),
-        Word::Unreadable => tell(Kind::Response, refused(card, 1), &[], text),
+        Word::Unreadable => answer_line(Kind::Response, refused(card, 1), &[], text),
     }
 }

@@ -71,6 +71,11 @@ more c (b ∷ s) h =
     ∙ front-twice n (kept c ++ (b ∷ [])) s
     ∙ ap (take n) (append-assoc (kept c) (b ∷ []) s)
 
+pub kept-size : (c : Collected) (s : List ℕ) → length (keepAll c s .buffer) ≡ length (c .buffer)
+unfolding keepAll
+kept-size c [] = refl
+kept-size c (b ∷ s) = kept-size (keepByte c b) s ∙ same-size c b
+
 pub all-kept : (buffer s : List ℕ) → kept (keepAll (collected buffer 0) s) ≡ take (length buffer) s
 all-kept buffer s = more (collected buffer 0) s (omega arith)
 

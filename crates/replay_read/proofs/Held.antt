@@ -14,7 +14,7 @@ use Rattle.card_model.proofs.Choices.{cond-elim, cond-either}
 use Rattle.replay_read.specs.declared.Word.{Word}
 use Rattle.replay_read.specs.declared.Word.the-variants.{Unreadable}
 use Rattle.replay_read.specs.Hex.{allHex, unhex}
-use Rattle.replay_read.specs.Read.{Line, cmd, blk, takeLine, overLine, unreadable, CMD, BLK, TAKE, OVER, input, field, readLine, held, heldField, lineOf}
+use Rattle.replay_read.specs.Read.{Request, cmd, blk, bareTake, bareOver, unreadable, CMD, BLK, TAKE, OVER, input, field, readLine, held, heldField, requestOf}
 use Rattle.replay_read.proofs.Digits.{length-unhex}
 
 drop-zeros : (k n : ℕ) → k ≤ n → drop k (replicate {A = ℕ} n 0) ≡ replicate (n - k) 0
@@ -44,7 +44,7 @@ field-read word size s bytes h l a e =
     ∙ ap (λ (l : List ℕ). unhex s ++ l) (drop-zeros (length (unhex s)) 514 (omega arith))))
 
 -- what the code holds of a field
-pub held-field : (word : Word) (n : ℕ) (s : List ℕ) (make : List ℕ → Line) → ((t : List ℕ) → held (make t) ≡ input word t)
+pub held-field : (word : Word) (n : ℕ) (s : List ℕ) (make : List ℕ → Request) → ((t : List ℕ) → held (make t) ≡ input word t)
     → heldField word n s ≡ held (field n s make)
 unfolding heldField field held
 held-field word n s make h = chosen (eqb (length s) n && allHex s)
@@ -55,22 +55,22 @@ held-field word n s make h = chosen (eqb (length s) n && allHex s)
 
 -- ---- nothing of a line is lost
 
-Kept : Line → Type 0
-Kept l = lineOf (held l) ≡ l
+Kept : Request → Type 0
+Kept l = requestOf (held l) ≡ l
 
 cmd-whole : (s : List ℕ) → length s ≡ 6 → Kept (cmd s)
-unfolding Kept lineOf held
+unfolding Kept requestOf held
 cmd-whole s h = ap cmd (take-at s (replicate (514 - length s) 0) 6 h)
 
 blk-whole : (s : List ℕ) → length s ≡ 514 → Kept (blk s)
-unfolding Kept lineOf held
+unfolding Kept requestOf held
 blk-whole s h = ap blk (ap (λ (n : ℕ). s ++ replicate (514 - n) 0) h ∙ append-nil s)
 
-bare-whole : Kept takeLine × Kept overLine × Kept unreadable
-unfolding Kept lineOf held
+bare-whole : Kept bareTake × Kept bareOver × Kept unreadable
+unfolding Kept requestOf held
 bare-whole = (refl, refl, refl)
 
-field-whole : (n : ℕ) (s : List ℕ) (make : List ℕ → Line) → ((t : List ℕ) → length t ≡ n → Kept (make t)) → Kept (field (2 * n) s make)
+field-whole : (n : ℕ) (s : List ℕ) (make : List ℕ → Request) → ((t : List ℕ) → length t ≡ n → Kept (make t)) → Kept (field (2 * n) s make)
 unfolding field
 field-whole n s make k =
     cond-elim Kept (eqb (length s) (2 * n) && allHex s) (λ e. k (unhex s) (length-unhex n s (eqb-true _ _ (first _ _ e)))) (λ e. bare-whole .2)
@@ -79,7 +79,7 @@ field-whole n s make k =
     first true b e = refl
     first false b e = absurd (false≢true e)
 
-pub held-whole : (s : List ℕ) → lineOf (held (readLine s)) ≡ readLine s
+pub held-whole : (s : List ℕ) → requestOf (held (readLine s)) ≡ readLine s
 unfolding Kept readLine
 held-whole s =
     cond-either Kept (equal (take 4 s) CMD) (field-whole 6 (drop 4 s) cmd cmd-whole)

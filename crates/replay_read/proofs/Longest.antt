@@ -8,14 +8,14 @@ use borrow.Author.Tests.{ne-eqb, leb-true, leb-false}
 use lib.Dec.{leb}
 use lib.ListN.{length, take, drop, length-take, length-drop}
 use lib.Seq.{take-all}
-use Rattle.replay_read.specs.Read.{Line, unreadable, TAKE, OVER, LONGEST, field, readLine}
+use Rattle.replay_read.specs.Read.{Request, unreadable, TAKE, OVER, LONGEST, field, readLine}
 use Rattle.replay_read.proofs.Words.{lengths-differ}
 
-cond-same : (b : Bool) (l : Line) → cond b l l ≡ l
+cond-same : (b : Bool) (l : Request) → cond b l l ≡ l
 cond-same true l = refl
 cond-same false l = refl
 
-field-off : (n : ℕ) (s : List ℕ) (make : List ℕ → Line) → (length s ≡ n → ⊥) → field n s make ≡ unreadable
+field-off : (n : ℕ) (s : List ℕ) (make : List ℕ → Request) → (length s ≡ n → ⊥) → field n s make ≡ unreadable
 unfolding field
 field-off n s make h = rw (ne-eqb _ n h)
 

@@ -11,7 +11,7 @@ use Rattle.crc.specs.Bits.{Bytes}
 use Rattle.card_model.specs.Soundness.{equal}
 use Rattle.card_model.proofs.Choices.{cond-elim}
 use Rattle.replay_read.specs.Hex.{hexDigit, hex, hexValue, allHex, unhex}
-use Rattle.replay_read.specs.Read.{Line, cmd, blk, CMD, BLK, field, readLine}
+use Rattle.replay_read.specs.Read.{Request, cmd, blk, CMD, BLK, field, readLine}
 use Rattle.replay_read.proofs.Digits.{length-hex}
 
 -- ---- a digit
@@ -51,7 +51,7 @@ unhex-hex (x ∷ s) b =
 
 -- ---- lines
 
-field-hex : (n : ℕ) (s : List ℕ) (make : List ℕ → Line) → Bytes s → 2 * length s ≡ n → field n (hex s) make ≡ make s
+field-hex : (n : ℕ) (s : List ℕ) (make : List ℕ → Request) → Bytes s → 2 * length s ≡ n → field n (hex s) make ≡ make s
 unfolding field
 field-hex n s make b h = rw (eq-eqb _ n (length-hex s ∙ h), all-hex s b, unhex-hex s b)
 

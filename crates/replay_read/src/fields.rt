@@ -9,7 +9,7 @@ use crate::Input;
 use crate::Word;
 use crate::hex::unhex_into;
 
-pub(crate) fn same(a: &[u8], b: &[u8]) -> bool
+pub(crate) fn equals(a: &[u8], b: &[u8]) -> bool
     ensures { λ r. ⌜ r ≡ equal (now (a .entry)) (now (b .entry)) ⌝ }
 {
     if a.len() != b.len() {
@@ -32,7 +32,7 @@ pub(crate) fn begins(line: &[u8], word: &[u8]) -> bool
     if line.len() < n {
         return false;
     }
-    same(&line[0..n], word)
+    equals(&line[0..n], word)
 }
 
 // A line with no field.

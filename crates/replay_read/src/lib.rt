@@ -1,5 +1,6 @@
 // The replay program's lines of input: how they are collected, and what is read.
 ghost use mathlib.Core.Path.{_≡_};
+ghost use lib.ListN.{take};
 ghost use Rattle.replay_read.specs.Read.{readLine, held};
 ghost use Rattle.replay_read.specs.Keep.{keepByte, collected};
 
@@ -31,13 +32,23 @@ pub fn read(line: &[u8]) -> Input
     if fields::begins(line, b"blk\t") {
         return fields::field(Word::Blk, 514, &line[4..]);
     }
-    if fields::same(line, b"take") {
+    if fields::equals(line, b"take") {
         return fields::bare(Word::Take);
     }
-    if fields::same(line, b"over") {
+    if fields::equals(line, b"over") {
         return fields::bare(Word::Over);
     }
     fields::bare(Word::Unreadable)
+}
+
+// The first `n` bytes, or all where there are fewer.
+pub fn front(s: &[u8], n: usize) -> &[u8]
+    ensures { λ r. ⌜ now r ≡ take n (now (s .entry)) ⌝ }
+{
+    if n < s.len() {
+        return &s[0..n];
+    }
+    s
 }
 
 // One byte more of a line that is being collected; a full buffer stays as it is.

@@ -1,2 +1,3 @@
--- The bytes of a line that are kept.
-pub mod Kept
+-- A session, byte by byte and line by line.
+pub mod Heard
+pub mod Laws

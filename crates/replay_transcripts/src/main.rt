@@ -8,7 +8,7 @@ fn replay(name: &[u8]) {
     io::write_all(1, b"# ");
     io::write_all(1, name);
     io::write_all(1, b"\n");
-    replay_session::run(fd);
+    replay_run::run(fd);
     libc::close(fd);
 }
 

@@ -85,16 +85,16 @@ module _ (kind : Kind) (bytes text : List ℕ) where
   unfolding line
   length-line = simp (length-append, length-hex, length-word) (omega arith)
 
-  pub unsent : length text < 5 + 2 * length bytes → refuse BUFFER text ≡ fitted (word kind ++ (hex bytes ++ (10 ∷ []))) text
+  pub no-bytes-line : length text < 5 + 2 * length bytes → refuse BUFFER text ≡ fitted (word kind ++ (hex bytes ++ (10 ∷ []))) text
   unfolding line
-  unsent h = no-room line text (omega (arith, length-line))
+  no-bytes-line h = no-room line text (omega (arith, length-line))
 
-  pub sent : (tag copied digits : List ℕ) → 4 + 2 * length bytes < length text → tag ≡ word kind
+  pub bytes-line : (tag copied digits : List ℕ) → 4 + 2 * length bytes < length text → tag ≡ word kind
       → copied ≡ take (length text) tag ++ drop (length tag) text → digits ≡ hex bytes
       → record {
         answer = done (4 + 2 * length bytes + 1);
         buffer = putMid 4 (4 + 2 * length bytes - 4) (set copied (4 + 2 * length bytes) 10) digits;
       } ≡ fitted (word kind ++ (hex bytes ++ (10 ∷ []))) text
-  sent tag copied digits h et ec ed =
+  bytes-line tag copied digits h et ec ed =
       emitted tag digits text (4 + 2 * length bytes) (ap length et ∙ length-word kind) (omega (arith, ap length ed, length-hex bytes)) h copied ec
       ∙ ap₂ (λ (a b : List ℕ). fitted (a ++ (b ++ (10 ∷ []))) text) et ed

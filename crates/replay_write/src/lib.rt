@@ -9,10 +9,10 @@ mod text;
 
 use card_model::answer::Answer;
 use codec::Encoded;
-use text::front;
+use replay_read::front;
+use text::bytes_line;
 use text::put;
 use text::refusal;
-use text::sent;
 
 // What is sent is a response, or a data block.
 pub enum Kind {
@@ -26,7 +26,7 @@ pub fn write(kind: Kind, answer: Answer, out: &[u8], text: &mut [u8]) -> Encoded
 {
     match answer {
         Answer::Silence => put(b"none\n", text),
-        Answer::Sent(n) => sent(kind, front(out, n), text),
+        Answer::Sent(n) => bytes_line(kind, front(out, n), text),
         Answer::Accepted => put(b"ack\n", text),
         Answer::Rejected => put(b"nak\n", text),
         Answer::Over => put(b"none\n", text),

@@ -1,7 +1,6 @@
 // Lines of output, with their newline.
 ghost use mathlib.Core.Path.{_≡_};
 ghost use mathlib.Core.List.{[], _∷_, _++_};
-ghost use lib.ListN.{take};
 ghost use Rattle.codec.specs.Answer.{encoding};
 ghost use Rattle.replay_read.specs.Hex.{hex};
 ghost use Rattle.replay_write.specs.Write.{word, refusal, fitted};
@@ -47,18 +46,8 @@ fn tag(kind: Kind) -> [u8; 4]
     }
 }
 
-// The first `n` bytes, or all where there are fewer.
-pub(crate) fn front(out: &[u8], n: usize) -> &[u8]
-    ensures { λ r. ⌜ now r ≡ take n (now (out .entry)) ⌝ }
-{
-    if n < out.len() {
-        return &out[0..n];
-    }
-    out
-}
-
 // A response or a block, in hex.
-pub(crate) fn sent(kind: Kind, bytes: &[u8], text: &mut [u8]) -> Encoded
+pub(crate) fn bytes_line(kind: Kind, bytes: &[u8], text: &mut [u8]) -> Encoded
     ensures { λ r. ⌜ encoding r (now (text .exit)) ≡ fitted (word kind ++ (hex (now (bytes .entry)) ++ (10 ∷ []))) (now (text .entry)) ⌝ }
 {
     if text.len() < 5 {

@@ -4,10 +4,9 @@ use mathlib.Core.List.{List}
 use Prim.Native.Nat.{ℕ, suc, _+_, _-_, _<_, _≤_}
 use native.Mathlib.Omega.{arith}
 use Rattle.card_model.specs.declared.card.Card.{Card}
-use Rattle.card_model.specs.Step.{World, Call, answer, step}
+use Rattle.card_model.specs.Step.{World, world, Call, answer, step}
 use Rattle.card_call.specs.declared.Stepped.{Stepped}
 use Rattle.card_call.specs.Seen.{Seen, returned, stepped, seen}
-use Rattle.speed_open.specs.Opened.{world}
 use Rattle.speed_open.proofs.Frames.{worldOf}
 use Rattle.speed_card.specs.Blocks.{right, Ran, ran, more, many}
 

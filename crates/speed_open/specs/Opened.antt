@@ -4,33 +4,30 @@ use mathlib.Core.List.{List, [], _∷_}
 use Prim.Native.Nat.{ℕ, _/_, _%_, _^_}
 use lib.ListN.{length, replicate}
 use Rattle.card_model.specs.declared.settings.Settings.{Settings}
-use Rattle.card_model.specs.declared.card.Card.{Card}
-use Rattle.card_model.specs.Step.{World, commandFrame, next, start}
+use Rattle.card_model.specs.Settings.{BLOCK}
+use Rattle.card_model.specs.Step.{World, world, powerUp, commandFrame, ROOM, next, unpowered}
 
 -- a block count that memory gives, no polls, CID zero, unprotected
 abbrev pub settings : ℕ → Settings
 settings n = record {
-  blocks = n / 512 % 2 ^ 32;
+  blocks = n / BLOCK % 2 ^ 32;
   polls = 0;
   cid = record { mid = 0; oid = 0; pnm = 0; prv = 0; psn = 0; mdt = 0 };
   permanent = false;
   temporary = false;
 }
 
-abbrev pub world : Card → List ℕ → World
-world card memory = record { card = card; memory = memory }
-
-abbrev pub started : List ℕ → World
-started memory = world (start (settings (length memory))) memory
+abbrev pub powered : List ℕ → World
+powered memory = next (world unpowered memory) (powerUp (settings (length memory)))
 
 -- a frame with a buffer of zeroes
 abbrev pub heard : World → List ℕ → World
-heard w frame = next w (commandFrame frame (replicate 17 0))
+heard w frame = next w (commandFrame frame (replicate ROOM 0))
 
 -- 55, A41, 2, 3, 7, and the command that opens the transfer
 abbrev pub opened : List ℕ → List ℕ → World
 opened frame memory =
-    let w1 = heard (started memory) (0x77 ∷ 0 ∷ 0 ∷ 0 ∷ 0 ∷ 0x65 ∷ []) in
+    let w1 = heard (powered memory) (0x77 ∷ 0 ∷ 0 ∷ 0 ∷ 0 ∷ 0x65 ∷ []) in
     let w2 = heard w1 (0x69 ∷ 0 ∷ 0xFF ∷ 0x80 ∷ 0 ∷ 0x85 ∷ []) in
     let w3 = heard w2 (0x42 ∷ 0 ∷ 0 ∷ 0 ∷ 0 ∷ 0x4D ∷ []) in
     let w4 = heard w3 (0x43 ∷ 0 ∷ 0 ∷ 0 ∷ 0 ∷ 0x21 ∷ []) in

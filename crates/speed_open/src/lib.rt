@@ -1,6 +1,7 @@
 // A card that is brought to tran and given a command.
 ghost use mathlib.Core.Path.{_≡_};
-ghost use Rattle.speed_open.specs.Opened.{settings, world, heard, opened};
+ghost use Rattle.speed_open.specs.Opened.{settings, powered, heard, opened};
+ghost use Rattle.card_model.specs.Step.{world};
 use card_model::card::Card;
 use card_model::settings::Settings;
 use reg_cid::cid::Cid;
@@ -18,12 +19,20 @@ fn settings(bytes: usize) -> Settings
         mdt: 0,
     };
     Settings {
-        blocks: (bytes / 512 % 0x1_0000_0000) as u32,
+        blocks: (bytes / card_settings::BLOCK as usize % 0x1_0000_0000) as u32,
         polls: 0,
         cid: cid,
         permanent: false,
         temporary: false,
     }
+}
+
+// The record after a power-up.
+fn powered(memory: &[u8]) -> Card
+    ensures { λ r. ⌜ world r (now (memory .entry)) ≡ powered (now (memory .entry)) ⌝ }
+{
+    let s = card_power::power_up(card_power::unpowered(), settings(memory.len()), memory);
+    s.card
 }
 
 // The record after a frame.
@@ -40,7 +49,7 @@ fn hear(card: Card, frame: [u8; 6], memory: &mut [u8]) -> Card
 pub fn open(frame: [u8; 6], memory: &mut [u8]) -> Card
     ensures { λ r. ⌜ world r (now (memory .exit)) ≡ opened frame (now (memory .entry)) ⌝ }
 {
-    let card0 = card_power::start(settings(memory.len()));
+    let card0 = powered(memory);
     let card1 = hear(card0, [0x77, 0, 0, 0, 0, 0x65], memory);
     let card2 = hear(card1, [0x69, 0, 0xFF, 0x80, 0, 0x85], memory);
     let card3 = hear(card2, [0x42, 0, 0, 0, 0, 0x4D], memory);

@@ -37,7 +37,7 @@ fn command(index: u8, argument: u32) {
 fn frame(s: &[u8]) {
     given(b"frame ", s);
     match wire_frame::command::check(s) {
-        FrameCheck::Good => text(b"good "),
+        FrameCheck::Good { .. } => text(b"good "),
         FrameCheck::Size => text(b"size "),
         FrameCheck::Start => text(b"start or transmission "),
         FrameCheck::Check => text(b"check or end "),

@@ -8,7 +8,7 @@ use vectors_print::space;
 use vectors_print::text;
 
 fn packet(payload: &[u8]) {
-    let mut out = [0u8; 514];
+    let mut out = [0u8; wire_packet::PAYLOAD + wire_packet::CHECK];
     text(b"packet ");
     encoded(wire_packet::encode(payload, &mut out), &out);
 }

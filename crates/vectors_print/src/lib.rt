@@ -33,14 +33,14 @@ pub fn hex(s: &[u8]) {
 // A number of 32 bits, eight digits.
 pub fn word(n: u32) {
     let mut b = [0u8; 4];
-    codec::put(&mut b, n as u64);
+    codec::put32(&mut b, n);
     hex(&b);
 }
 
 // A number of 16 bits, four digits.
 pub fn half(n: u16) {
     let mut b = [0u8; 2];
-    codec::put(&mut b, n as u64);
+    codec::put32(&mut b, n as u32);
     hex(&b);
 }
 

@@ -70,10 +70,14 @@ fn r7_decoded(s: [u8; 6]) {
     }
 }
 
+// The content of an R2's register, without its check, and the number.
 fn r2_decoded(s: &[u8]) {
     let mut number: u8 = 0;
     given(b"R2 ", s);
-    hex(wire_response_decode::decode_r2(s, &mut number));
+    let register = wire_response_decode::decode_r2(s, &mut number);
+    if register.len() == 16 {
+        hex(&register[0..15]);
+    }
     space();
     byte(number);
     end();
@@ -83,7 +87,8 @@ fn r2_decoded(s: &[u8]) {
 fn register() {
     let mut out = [0u8; 17];
     text(b"R2 ");
-    encoded(wire_response::encode_r2([0u8; 15], &mut out), &out);
+    let zeros = [0, 0, 0, 0, 0, 0, 0, 0, 0, 0, 0, 0, 0, 0, 0, 0x01];
+    encoded(wire_response::encode_r2(&zeros, &mut out), &out);
     r2_decoded(&out);
     r2_decoded(&[0x3F, 0, 0, 0, 0, 0, 0, 0, 0, 0, 0, 0, 0, 0, 0, 0, 0]);
     r2_decoded(&[0x3F, 0, 0, 0, 0, 0, 0, 0, 0, 0, 0, 0, 0, 0, 0, 0]);

@@ -12,16 +12,17 @@ use lib.ListN.{length, getD, take, drop}
 use Rattle.crc.specs.Bits.{bits, bitsOf, Bytes}
 use Rattle.crc.specs.Crc.{crc, poly7}
 use Rattle.crc.proofs.Bits.{bits-join}
-use Rattle.codec.specs.Answer.{Outcome, done, refused, SIZE, WRONG}
+use Rattle.codec.specs.Answer.{done, refused, SIZE, WRONG}
 use Rattle.codec.specs.Layout.{Slot, field, fixed, width, write, read, judged, fits}
 use Rattle.codec.specs.Format.{right, encode, decode}
 use Rattle.codec.proofs.Bits.{test-eq, both}
 use Rattle.codec.proofs.Words.{within, judgedIn, read-word, judged-word}
-use Rattle.wire_frame.specs.Command.{command, frameCheck}
-use Rattle.wire_frame.specs.Frame.{closing, sent}
+use Rattle.wire_frame.specs.Command.{command, good, frameCheck, frameOutcome}
+use Rattle.wire_frame.specs.Claims.{FrameDecoded}
+use Rattle.wire_frame.specs.Frame.{closing, encodeFrame}
 use Rattle.wire_frame.specs.declared.command.FrameCheck.{FrameCheck}
 use Rattle.wire_frame.specs.declared.command.FrameCheck.the-variants.{Good, Size, Start, Check}
-use Rattle.wire_frame.proofs.Frames.{content, bitsOf-first, content-lt, read-content, same-last, encode-sent, image-frame, right-frame}
+use Rattle.wire_frame.proofs.Frames.{content, bitsOf-first, content-lt, read-content, same-last, encode-framed, image-frame, right-frame}
 
 -- ---- the first byte
 
@@ -67,61 +68,51 @@ read-command s h =
 -- ---- the frame check
 
 -- a check that is looked at only behind a right start
-behind : (p q : Bool) → cond p (cond (p && q) Good Check) Start ≡ cond p (cond q Good Check) Start
-behind true q = refl
-behind false q = refl
+behind : (p q : Bool) (k : FrameCheck) → cond p (cond (p && q) k Check) Start ≡ cond p (cond q k Check) Start
+behind true q k = refl
+behind false q k = refl
+
+-- the command of six bytes
+abbrev pub found : List ℕ → FrameCheck
+found s = Good (bitAnd (getD s 0 0) 63) (content s)
 
 module _ (s : List ℕ) (h : length s ≡ 6) (b : Bytes s) where
-  pub frameCheck-start : frameCheck s ≡ cond (eqb (getD s 0 0 / 2 ^ 6) 1) (cond (right command s) Good Check) Start
+  pub frameCheck-start : frameCheck s ≡ cond (eqb (getD s 0 0 / 2 ^ 6) 1) (cond (right command s) (found s) Check) Start
   unfolding frameCheck
   frameCheck-start =
-      ap₂ (λ (t j : Bool). cond t (cond j (cond (right command s) Good Check) Start) Size) (eq-eqb (length s) 6 h) (judged-command s h b)
+      ap₂ (λ (t j : Bool). cond t (cond j (cond (right command s) (good (read (command .slots) (bitsOf s))) Check) Start) Size)
+      (eq-eqb (length s) 6 h) (judged-command s h b)
+      ∙ ap (λ (fs : List ℕ). cond (eqb (getD s 0 0 / 2 ^ 6) 1) (cond (right command s) (good fs) Check) Start) (read-command s h)
 
   pub frameCheck-bytes : (c : ℕ) → c < 256 → bits 8 c ≡ crc poly7 (bitsOf (take 5 s)) ++ (true ∷ [])
-      → frameCheck s ≡ cond (eqb (getD s 0 0 / 2 ^ 6) 1) (cond (eqb (getD s 5 0) c) Good Check) Start
+      → frameCheck s ≡ cond (eqb (getD s 0 0 / 2 ^ 6) 1) (cond (eqb (getD s 5 0) c) (found s) Check) Start
   unfolding closing width
   frameCheck-bytes c hc e =
       let p = eqb (getD s 0 0 / 2 ^ 6) 1 in
       frameCheck-start
-      ∙ ap (λ (q : Bool). cond p (cond q Good Check) Start)
+      ∙ ap (λ (q : Bool). cond p (cond q (found s) Check) Start)
       (right-frame (command .slots) s refl ∙ ap₂ (λ (t q : Bool). t && q) (judged-command s h b) (same-last true s c h b hc e))
-      ∙ behind p (eqb (getD s 5 0) c)
+      ∙ behind p (eqb (getD s 5 0) c) (found s)
 
--- what the decoder makes of the check and the fields
-abbrev pub answered : FrameCheck → List ℕ → Outcome (List ℕ)
-answered Good vs = done vs
-answered Size vs = refused SIZE
-answered Start vs = refused WRONG
-answered Check vs = refused WRONG
-
-decode-answered : (s : List ℕ) → decode command s ≡ answered (frameCheck s) (read (command .slots) (bitsOf s))
-unfolding decode frameCheck right
-decode-answered s = go (eqb (length s) 6) (judged (command .slots) (bitsOf s)) _
+-- the decoder answers by the check
+pub frame-decoded : FrameDecoded
+unfolding decode frameCheck right read
+frame-decoded s = go (eqb (length s) 6) (judged (command .slots) (bitsOf s)) _
   where
-    vs : List ℕ
-    vs = read (command .slots) (bitsOf s)
+    fs : List ℕ
+    fs = read (command .slots) (bitsOf s)
 
-    go : (t j q : Bool) → cond t (cond (j && q) (done vs) (refused WRONG)) (refused SIZE) ≡ answered (cond t (cond j (cond (j && q) Good Check) Start) Size) vs
+    go : (t j q : Bool) → frameOutcome (cond t (cond j (cond (j && q) (good fs) Check) Start) Size)
+        ≡ cond t (cond (j && q) (done fs) (refused WRONG)) (refused SIZE)
     go false j q = refl
     go true false q = refl
     go true true true = refl
     go true true false = refl
 
-pub decode-checked : (s : List ℕ) (k : FrameCheck) → k ≡ frameCheck s → decode command s ≡ answered k (read (command .slots) (bitsOf s))
-decode-checked s k e = decode-answered s ∙ ap (λ (x : FrameCheck). answered x (read (command .slots) (bitsOf s))) (sym e)
+pub decode-checked : (s : List ℕ) (k : FrameCheck) → k ≡ frameCheck s → frameOutcome k ≡ decode command s
+decode-checked s k e = ap frameOutcome e ∙ frame-decoded s
 
-pub good-size : (s : List ℕ) → Good ≡ frameCheck s → length s ≡ 6
-unfolding frameCheck
-good-size s e = go (eqb (length s) 6) refl e
-  where
-    go : (t : Bool) → eqb (length s) 6 ≡ t → Good ≡ cond t (cond (judged (command .slots) (bitsOf s)) (cond (right command s) Good Check) Start) Size → length s ≡ 6
-    go true h e = eqb-true (length s) 6 h
-    go false h e = let z : _≡_ {A = ℕ} 0 1 = cc in absurd (omega arith)
-
-pub decode-good : (s : List ℕ) → Good ≡ frameCheck s → decode command s ≡ done (bitAnd (getD s 0 0) 63 ∷ (content s ∷ []))
-decode-good s e = decode-checked s Good e ∙ ap done (read-command s (good-size s e))
-
--- ---- sending
+-- ---- encoding
 
 write-command : (index argument : ℕ) → index < 64
     → write (command .slots) (index ∷ (argument ∷ [])) ≡ bits 8 (bitOr 64 (bitAnd index 63)) ++ bits 32 argument
@@ -134,9 +125,9 @@ write-command index argument h =
     ∙ ap (λ (x : ℕ). bits 2 1 ++ bits 6 x) (and-mask index 6 ∙ mod-eq-of-lt h)))
 
 pub encode-command : (index argument : ℕ) (out : List ℕ) → argument < 2 ^ 32
-    → encode command (index ∷ (argument ∷ [])) out ≡ sent (ltb index 64) true (bitOr 64 (bitAnd index 63)) argument out
+    → encode command (index ∷ (argument ∷ [])) out ≡ encodeFrame (ltb index 64) true (bitOr 64 (bitAnd index 63)) argument out
 unfolding fits
 encode-command index argument out h =
-    encode-sent command (index ∷ (argument ∷ [])) out (ltb index 64) true (bitOr 64 (bitAnd index 63)) argument
+    encode-framed command (index ∷ (argument ∷ [])) out (ltb index 64) true (bitOr 64 (bitAnd index 63)) argument
     (simp (lt-ltb argument (2 ^ 32) h, and-true))
     (λ t. image-frame (command .slots) (index ∷ (argument ∷ [])) (bitOr 64 (bitAnd index 63)) argument (write-command index argument (ltb-true index 64 t)))

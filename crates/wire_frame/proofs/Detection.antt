@@ -16,11 +16,11 @@ use Rattle.crc.proofs.Detection.{poly7-detects}
 use Rattle.codec.specs.Layout.{width, judged}
 use Rattle.codec.proofs.Bits.{same-true}
 use Rattle.codec.proofs.RoundTrip.{done-decode}
-use Rattle.wire_frame.specs.Command.{command, frameCheck}
+use Rattle.wire_frame.specs.Command.{command}
 use Rattle.wire_frame.specs.Damage.{WellFormed, DamagedFrame}
+use Rattle.wire_frame.specs.Claims.{FrameCaught}
 use Rattle.wire_frame.specs.Frame.{closing}
-use Rattle.wire_frame.specs.declared.command.FrameCheck.the-variants.{Good}
-use Rattle.wire_frame.proofs.Commands.{decode-good}
+use Rattle.wire_frame.proofs.Commands.{decode-checked}
 use Rattle.wire_frame.proofs.Frames.{right-frame}
 use Rattle.wire_frame.proofs.Fronts.{altered-front}
 
@@ -52,8 +52,8 @@ word-end s w =
 
 -- ---- the law
 
-pub frame-caught : (got : List ℕ) → DamagedFrame got → WellFormed got → ⊥
-frame-caught got d w =
+caught : (got : List ℕ) → DamagedFrame got → WellFormed got → ⊥
+caught got d w =
     let sent = d .sent in
     let l : length (word sent) ≡ 47 = length-word sent (d .wellFormed .size) in
     let k : length (word got) ≡ 47 = length-word got (w .size) in
@@ -64,7 +64,11 @@ frame-caught got d w =
     (rw length-poly7 (altered-front 2 7 (word sent) (word got) true (l ∙ sym k) a))
     (record { message = take 40 (bitsOf got); checked = refl })
 
-pub damaged-checked : (got : List ℕ) → DamagedFrame got → frameCheck got ≡ Good → ⊥
-damaged-checked got d e =
-    let r = done-decode command got _ (decode-good got (sym e)) in
-    frame-caught got d (record { size = r .whole; sound = r .sound })
+pub frame-caught : FrameCaught
+frame-caught = record {
+  never-well-formed = caught;
+  never-good =
+      λ got d index argument e.
+      let r = done-decode command got _ (sym (decode-checked got _ (sym e))) in
+      caught got d (record { size = r .whole; sound = r .sound });
+}

@@ -20,8 +20,8 @@ use Rattle.codec.specs.Layout.{Slot, width, write, read, judged, fits}
 use Rattle.codec.specs.Format.{Format, Ending, crc7From, ended, image, right, encode, decode}
 use Rattle.codec.proofs.Bits.{take-bitsOf, drop-bitsOf, bitsOf-last, length-bitsOf-take, same-bits}
 use Rattle.codec.proofs.Words.{within, read-word, bitsOf-word, byte-bits}
-use Rattle.wire_frame.specs.Frame.{closing, frame, sent, whole, opening, opened}
-use Rattle.wire_frame.specs.declared.frame.Opened.{Opened}
+use Rattle.wire_frame.specs.Frame.{closing, frame, encodeFrame, whole, readFrame, frameRead}
+use Rattle.wire_frame.specs.declared.frame.FrameRead.{FrameRead}
 
 -- ---- reading
 
@@ -52,11 +52,8 @@ read-content l m s hw h =
     ∙ ap (λ (k : ℕ). within l k (content s) ++ read m (bitsOf (drop 5 s))) hw
 
 -- the word of the content, as it is read
-pub word-content : (s : List ℕ) (r : ℕ) → length s ≡ 6 → r ≡ content s % 2 ^ 64 → r ≡ content s
-word-content s r h e = e ∙ mod-eq-of-lt (omega (arith, content-lt s h))
-
-pub word-fits : (s : List ℕ) (r : ℕ) → length s ≡ 6 → r ≡ content s % 2 ^ 64 → r < 2 ^ 32
-word-fits s r h e = rw (word-content s r h e) (content-lt s h)
+pub word-content : (s : List ℕ) (r : ℕ) → length s ≡ 6 → r ≡ content s % 2 ^ 32 → r ≡ content s
+word-content s r h e = e ∙ mod-eq-of-lt (content-lt s h)
 
 -- the last byte, judged as bits and as a number
 pub same-last : (checked : Bool) (s : List ℕ) (c : ℕ) → length s ≡ 6 → Bytes s → c < 256
@@ -70,11 +67,11 @@ same-last checked s c h b hc e =
     ∙ same-bits 8 (getD s 5 0) c (b 5) hc
 
 -- a frame of the right size, by its first byte and its last
-pub opening-bytes : (checked : Bool) (index : ℕ) (s : List ℕ) (c : ℕ) → length s ≡ 6 → Bytes s → c < 256
+pub readFrame-bytes : (checked : Bool) (index : ℕ) (s : List ℕ) (c : ℕ) → length s ≡ 6 → Bytes s → c < 256
     → bits 8 c ≡ closing checked (bitsOf (take 5 s))
-    → opening checked index s ≡ cond ((ltb index 64 && eqb (getD s 0 0) index) && eqb (getD s 5 0) c) (done (content s)) (refused WRONG)
-unfolding opening whole
-opening-bytes checked index s c h b hc e =
+    → readFrame checked index s ≡ cond ((ltb index 64 && eqb (getD s 0 0) index) && eqb (getD s 5 0) c) (done (content s)) (refused WRONG)
+unfolding readFrame whole
+readFrame-bytes checked index s c h b hc e =
     ap₂ (λ (p q : Bool). cond p (cond ((ltb index 64 && eqb (getD s 0 0) index) && q) (done (content s)) (refused WRONG)) (refused SIZE))
     (eq-eqb (length s) 6 h)
     (same-last checked s c h b hc e)
@@ -84,54 +81,52 @@ abbrev pub turned : (ℕ → List ℕ) → Outcome ℕ → Outcome (List ℕ)
 turned g (done w) = done (g w)
 turned g (refused k) = refused k
 
-pub turned-opened : (g : ℕ → List ℕ) (r q : Opened) (o : Outcome ℕ) (d : Outcome (List ℕ)) → r ≡ q → opened r ≡ o → d ≡ turned g o
-    → turned g (opened q) ≡ d
-turned-opened g r q o d p e h = ap (λ (x : Opened). turned g (opened x)) (sym p) ∙ ap (turned g) e ∙ sym h
+pub turned-read : (g : ℕ → List ℕ) (r q : FrameRead) (o : Outcome ℕ) (d : Outcome (List ℕ)) → r ≡ q → frameRead r ≡ o → d ≡ turned g o
+    → turned g (frameRead q) ≡ d
+turned-read g r q o d p e h = ap (λ (x : FrameRead). turned g (frameRead x)) (sym p) ∙ ap (turned g) e ∙ sym h
 
-pub decode-opened : (slots : List Slot) (ending : Ending) (g : ℕ → List ℕ) (checked : Bool) (index : ℕ) (s : List ℕ)
+pub decode-frame : (slots : List Slot) (ending : Ending) (g : ℕ → List ℕ) (checked : Bool) (index : ℕ) (s : List ℕ)
     → (length s ≡ 6 → right (record { size = 6; slots = slots; ending = ending }) s ≡ whole checked index s)
     → (length s ≡ 6 → read slots (bitsOf s) ≡ g (content s))
-    → decode (record { size = 6; slots = slots; ending = ending }) s ≡ turned g (opening checked index s)
-unfolding decode opening
-decode-opened slots ending g checked index s hr hv = go (eqb (length s) 6) (whole checked index s) refl refl
+    → decode (record { size = 6; slots = slots; ending = ending }) s ≡ turned g (readFrame checked index s)
+unfolding decode readFrame
+decode-frame slots ending g checked index s hr hv = go (eqb (length s) 6) (whole checked index s) refl refl
   where
     go : (p q : Bool) → eqb (length s) 6 ≡ p → whole checked index s ≡ q
-        → decode (record { size = 6; slots = slots; ending = ending }) s ≡ turned g (opening checked index s)
+        → decode (record { size = 6; slots = slots; ending = ending }) s ≡ turned g (readFrame checked index s)
     go true true hp hq = let l = eqb-true (length s) 6 hp in simp (hp, hr l, hq, hv l)
     go true false hp hq = let l = eqb-true (length s) 6 hp in simp (hp, hr l, hq)
     go false q hp hq = simp hp
 
 -- ---- writing
 
--- a first byte is stored and the n bytes behind it are lent: what stands in front, and the whole with a last byte
-module _ (n first : ℕ) (out mid : List ℕ) (h : suc n < length out) (l : length mid ≡ n) where
-  pub stored-front : take (suc n) (putMid 1 n (set out 0 first) mid) ≡ first ∷ mid
-  stored-front = go out h
+-- a first byte is stored and the n bytes behind it are lent: the whole, what stands in front, and the whole with a last byte
+module _ (n first : ℕ) (out mid : List ℕ) (l : length mid ≡ n) where
+  pub stored : 1 ≤ length out → putMid 1 n (set out 0 first) mid ≡ (first ∷ mid) ++ drop (suc n) out
+  stored h = go out h
     where
-      go : (o : List ℕ) → suc n < length o → take (suc n) (putMid 1 n (set o 0 first) mid) ≡ first ∷ mid
+      go : (o : List ℕ) → 1 ≤ length o → putMid 1 n (set o 0 first) mid ≡ (first ∷ mid) ++ drop (suc n) o
       go [] h = absurd (omega arith)
-      go (x ∷ o) h = ap (λ (q : List ℕ). first ∷ q) (take-at mid (drop n o) n l)
+      go (x ∷ o) h = refl
 
-  pub stored-last : (last : ℕ) → set (putMid 1 n (set out 0 first) mid) (suc n) last ≡ (first ∷ (mid ++ (last ∷ []))) ++ drop (suc (suc n)) out
-  stored-last last = go out h
-    where
-      go : (o : List ℕ) → suc n < length o
-          → set (putMid 1 n (set o 0 first) mid) (suc n) last ≡ (first ∷ (mid ++ (last ∷ []))) ++ drop (suc (suc n)) o
-      go [] h = absurd (omega arith)
-      go (x ∷ o) h =
-          ap (λ (q : List ℕ). first ∷ q)
-          (ap (λ (q : List ℕ). set (mid ++ q) n last) (drop-cons o n 0 (omega arith))
-          ∙ set-at mid (getD o n 0) (drop (suc n) o) last n l
-          ∙ sym (append-snoc mid last (drop (suc n) o)))
+  pub stored-front : 1 ≤ length out → take (suc n) (putMid 1 n (set out 0 first) mid) ≡ first ∷ mid
+  stored-front h = ap (take (suc n)) (stored h) ∙ take-at (first ∷ mid) (drop (suc n) out) (suc n) (ap suc l)
+
+  pub stored-last : (last : ℕ) → suc n < length out
+      → set (putMid 1 n (set out 0 first) mid) (suc n) last ≡ (first ∷ (mid ++ (last ∷ []))) ++ drop (suc (suc n)) out
+  stored-last last h =
+      ap (λ (q : List ℕ). set q (suc n) last) (stored (omega arith) ∙ ap (λ (q : List ℕ). (first ∷ mid) ++ q) (drop-cons out (suc n) 0 h))
+      ∙ set-at (first ∷ mid) (getD out (suc n) 0) (drop (suc (suc n)) out) last (suc n) (ap suc l)
+      ∙ sym (append-snoc (first ∷ mid) last (drop (suc (suc n)) out))
 
 -- the part that is lent
-pub length-lent : (n first : ℕ) (out : List ℕ) → suc n < length out → length (take n (drop 1 (set out 0 first))) ≡ n
+pub length-lent : (n first : ℕ) (out : List ℕ) → suc n ≤ length out → length (take n (drop 1 (set out 0 first))) ≡ n
 length-lent n first out h =
     length-take-le n (drop 1 (set out 0 first)) (omega (arith, length-drop 1 (set out 0 first), length-set out 0 first))
 
 -- the part comes back as long as it was lent, and so does the whole
 module _ (n first : ℕ) (out mid : List ℕ) (l : length mid ≡ length (take n (drop 1 (set out 0 first)))) where
-  length-stored : length (putMid 1 n (set out 0 first) mid) ≡ length out
+  pub length-stored : length (putMid 1 n (set out 0 first) mid) ≡ length out
   length-stored = same-len-mid 1 n (set out 0 first) mid l ∙ length-set out 0 first
 
   pub stored-room : (k : ℕ) → k ≤ length out → k ≤ length (putMid 1 n (set out 0 first) mid)
@@ -162,27 +157,27 @@ pub put-content : (first w : ℕ) (out mid : List ℕ) → 17 ≤ length out
     → mid ≡ bytes 4 (bits 32 w)
 put-content first w out mid h e = e ∙ ap (λ (k : ℕ). bytes k (bits (8 * k) w)) (length-lent 4 first out (omega arith))
 
-pub sent-stored : (checked : Bool) (first w c : ℕ) (out mid : List ℕ) → first < 256 → c < 256 → 17 ≤ length out → mid ≡ bytes 4 (bits 32 w)
+pub frame-stored : (checked : Bool) (first w c : ℕ) (out mid : List ℕ) → first < 256 → c < 256 → 17 ≤ length out → mid ≡ bytes 4 (bits 32 w)
     → bits 8 c ≡ closing checked (bitsOf (take 5 (putMid 1 4 (set out 0 first) mid)))
-    → encoding (Wrote 6) (set (putMid 1 4 (set out 0 first) mid) 5 c) ≡ sent true checked first w out
-unfolding sent frame
-sent-stored checked first w c out mid hf hc h m e =
+    → encoding (Wrote 6) (set (putMid 1 4 (set out 0 first) mid) 5 c) ≡ encodeFrame true checked first w out
+unfolding encodeFrame frame
+frame-stored checked first w c out mid hf hc h m e =
     let l : length mid ≡ 4 = ap length m ∙ length-bytes 4 (bits 32 w) in
     let f : frame checked first w ≡ first ∷ (mid ++ (c ∷ [])) =
     frame-bytes checked first w c hf hc
-    (e ∙ ap (λ (q : List ℕ). closing checked (bitsOf q)) (stored-front 4 first out mid (omega arith) l ∙ ap (λ (q : List ℕ). first ∷ q) m))
+    (e ∙ ap (λ (q : List ℕ). closing checked (bitsOf q)) (stored-front 4 first out mid l (omega arith) ∙ ap (λ (q : List ℕ). first ∷ q) m))
     ∙ ap (λ (q : List ℕ). first ∷ (q ++ (c ∷ []))) (sym m) in
     emitted 6 (frame checked first w) (set (putMid 1 4 (set out 0 first) mid) 5 c) out
     (length-bytes 6 ((bits 8 first ++ bits 32 w) ++ closing checked (bits 8 first ++ bits 32 w)))
-    (stored-last 4 first out mid (omega arith) l c ∙ ap (λ (q : List ℕ). q ++ drop 6 out) (sym f))
+    (stored-last 4 first out mid l c (omega arith) ∙ ap (λ (q : List ℕ). q ++ drop 6 out) (sym f))
     ∙ sym (simp (le-ltb (length out) 17 h))
 
-pub encode-sent : (f : Format) (vs out : List ℕ) (p checked : Bool) (first w : ℕ) → fits (f .slots) vs ≡ p
+pub encode-framed : (f : Format) (vs out : List ℕ) (p checked : Bool) (first w : ℕ) → fits (f .slots) vs ≡ p
     → (p ≡ true → image f vs ≡ frame checked first w)
-    → encode f vs out ≡ sent p checked first w out
-unfolding encode sent
-encode-sent f vs out true checked first w h e = simp (h, e refl)
-encode-sent f vs out false checked first w h e = simp h
+    → encode f vs out ≡ encodeFrame p checked first w out
+unfolding encode encodeFrame
+encode-framed f vs out true checked first w h e = simp (h, e refl)
+encode-framed f vs out false checked first w h e = simp h
 
 -- ---- six bytes with a CRC7
 

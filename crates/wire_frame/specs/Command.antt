@@ -3,10 +3,10 @@ use mathlib.Core.Bool.{cond}
 use mathlib.Core.List.{List, [], _∷_}
 use Prim.Native.Nat.{ℕ}
 use lib.Dec.{eqb}
-use lib.ListN.{length}
+use lib.ListN.{length, getD}
 use Rattle.crc.specs.Bits.{bitsOf}
-use Rattle.codec.specs.Answer.{Outcome, done, refused}
-use Rattle.codec.specs.Layout.{field, fixed, judged}
+use Rattle.codec.specs.Answer.{Outcome, done, refused, SIZE, WRONG}
+use Rattle.codec.specs.Layout.{field, fixed, read, judged}
 use Rattle.codec.specs.Format.{Format, crc7From, right}
 use Rattle.wire_frame.specs.declared.command.FrameCheck.{FrameCheck}
 use Rattle.wire_frame.specs.declared.command.FrameCheck.the-variants.{Good, Size, Start, Check}
@@ -20,9 +20,22 @@ command = record {
   ending = crc7From 0;
 }
 
+-- index and argument of a frame whose fields these are
+abbrev pub good : List ℕ → FrameCheck
+good fs = Good (getD fs 0 0) (getD fs 1 0)
+
 -- the frame rules' order: size; start or transmission bit; check or end bit
 unfoldable pub frameCheck : List ℕ → FrameCheck
-frameCheck s = cond (eqb (length s) 6) (cond (judged (command .slots) (bitsOf s)) (cond (right command s) Good Check) Start) Size
+frameCheck s =
+    let fs = read (command .slots) (bitsOf s) in
+    cond (eqb (length s) 6) (cond (judged (command .slots) (bitsOf s)) (cond (right command s) (good fs) Check) Start) Size
+
+-- 01's numbers and values of the answers
+abbrev pub frameOutcome : FrameCheck → Outcome (List ℕ)
+frameOutcome (Good index argument) = done (index ∷ argument ∷ [])
+frameOutcome Size = refused SIZE
+frameOutcome Start = refused WRONG
+frameOutcome Check = refused WRONG
 
 abbrev pub commandRead : CommandRead → Outcome (List ℕ)
 commandRead (Command index argument) = done (index ∷ argument ∷ [])

@@ -8,8 +8,8 @@ use Rattle.crc.specs.Bits.{bits, number, bitsOf, bytes}
 use Rattle.crc.specs.Crc.{crc, poly7}
 use Rattle.crc.specs.Detection.{same}
 use Rattle.codec.specs.Answer.{Outcome, done, refused, SIZE, BUFFER, WRONG, FIELD, Encoding, refuse, emit}
-use Rattle.wire_frame.specs.declared.frame.Opened.{Opened}
-use Rattle.wire_frame.specs.declared.frame.Opened.the-variants.{Content, Refused}
+use Rattle.wire_frame.specs.declared.frame.FrameRead.{FrameRead}
+use Rattle.wire_frame.specs.declared.frame.FrameRead.the-variants.{Content, Refused}
 
 -- the last eight bits, behind the others
 unfoldable pub closing : Bool → List Bool → List Bool
@@ -22,8 +22,8 @@ frame checked first content =
     bytes 6 (bs ++ closing checked bs)
 
 -- rows 4 and 8, or the bytes
-unfoldable pub sent : Bool → Bool → ℕ → ℕ → List ℕ → Encoding
-sent fits checked first content out =
+unfoldable pub encodeFrame : Bool → Bool → ℕ → ℕ → List ℕ → Encoding
+encodeFrame fits checked first content out =
     cond (ltb (length out) 17) (refuse BUFFER out) (cond fits (emit (frame checked first content) out) (refuse FIELD out))
 
 -- start and transmission bit 0 with this index in the first byte, and the last byte right
@@ -32,10 +32,10 @@ whole checked index s =
     (ltb index 64 && eqb (getD s 0 0) index) && same (drop 40 (bitsOf s)) (closing checked (take 40 (bitsOf s)))
 
 -- rows 1 and 7, or the content
-unfoldable pub opening : Bool → ℕ → List ℕ → Outcome ℕ
-opening checked index s =
+unfoldable pub readFrame : Bool → ℕ → List ℕ → Outcome ℕ
+readFrame checked index s =
     cond (eqb (length s) 6) (cond (whole checked index s) (done (number (bitsOf (take 4 (drop 1 s))))) (refused WRONG)) (refused SIZE)
 
-abbrev pub opened : Opened → Outcome ℕ
-opened (Content w) = done w
-opened (Refused k) = refused k
+abbrev pub frameRead : FrameRead → Outcome ℕ
+frameRead (Content w) = done w
+frameRead (Refused k) = refused k

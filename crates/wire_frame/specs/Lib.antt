@@ -1,4 +1,5 @@
--- What a reader must believe of command frames: their layout, the frame check, and what a damaged frame is.
+-- What a reader must believe of command frames: their layout, the frame check, what a damaged frame is, and the claims.
 pub mod Frame
 pub mod Command
 pub mod Damage
+pub mod Claims

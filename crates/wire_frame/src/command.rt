@@ -6,9 +6,9 @@ ghost use Rattle.codec.specs.Format.{encode, decode};
 ghost use Rattle.wire_frame.specs.Command.{command, commandRead, frameCheck};
 use codec::Encoded;
 
-// What is wrong with a frame; the card treats the kinds differently.
+// A frame's command, or what is wrong with it; the card treats the kinds differently.
 pub enum FrameCheck {
-    Good,
+    Good { index: u8, argument: u32 },
     Size,
     // start or transmission bit
     Start,
@@ -34,25 +34,25 @@ pub fn check(s: &[u8]) -> FrameCheck
     if s[5] != codec::seal(&s[0..5]) {
         return FrameCheck::Check;
     }
-    FrameCheck::Good
+    FrameCheck::Good {
+        index: s[0] & 0x3F,
+        argument: codec::word32(&s[1..5]),
+    }
 }
 
 pub fn encode(index: u8, argument: u32, out: &mut [u8]) -> Encoded
     ensures { λ r. ⌜ encoding r (now (out .exit)) ≡ encode command (index ∷ argument ∷ []) (now (out .entry)) ⌝ }
 {
-    crate::frame::send(index < 64, true, 0x40 | (index & 0x3F), argument, out)
+    crate::frame::encode(index < 64, true, 0x40 | (index & 0x3F), argument, out)
 }
 
 pub fn decode(s: &[u8]) -> CommandRead
     ensures { λ r. ⌜ commandRead r ≡ decode command (now (s .entry)) ⌝ }
 {
     match check(s) {
+        FrameCheck::Good { index, argument } => CommandRead::Command { index, argument },
         FrameCheck::Size => CommandRead::Refused(codec::SIZE),
         FrameCheck::Start => CommandRead::Refused(codec::WRONG),
         FrameCheck::Check => CommandRead::Refused(codec::WRONG),
-        FrameCheck::Good => CommandRead::Command {
-            index: s[0] & 0x3F,
-            argument: codec::word(&s[1..5]) as u32,
-        },
     }
 }

@@ -8,10 +8,10 @@ use Rattle.crc.specs.Bits.{bitsOf}
 use Rattle.crc.specs.Altered.{Altered}
 use Rattle.wire_packet.specs.Packet.{packetRight}
 
--- a block of 514 bytes with its right check, altered in one to three bits or within sixteen neighbouring bits
-pub record DamagedBlock (got : List ℕ) : Type 0 where
+-- a block of so many bytes with its right check, altered in one to three bits or within sixteen neighbouring bits
+pub record DamagedBlock (size : ℕ) (got : List ℕ) : Type 0 where
   pub sent : List ℕ
-  pub sentSize : length sent ≡ 514
+  pub sentSize : length sent ≡ size
   pub sound : packetRight sent ≡ true
-  pub gotSize : length got ≡ 514
+  pub gotSize : length got ≡ size
   pub altered : Altered 3 16 (bitsOf sent) (bitsOf got)

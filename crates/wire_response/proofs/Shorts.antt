@@ -14,10 +14,10 @@ use Rattle.codec.specs.Layout.{Slot, field, fixed, width, write, read, judged, 
 use Rattle.codec.specs.Format.{encode, decode, image, ended, bare, crc7From}
 use Rattle.codec.proofs.Bits.{bitsOf-last, test-eq, both}
 use Rattle.codec.proofs.Words.{within, judgedIn, read-word, judged-word, right-bare}
-use Rattle.wire_frame.specs.Frame.{closing, frame, sent, whole, opening, opened}
-use Rattle.wire_frame.specs.declared.frame.Opened.{Opened}
+use Rattle.wire_frame.specs.Frame.{closing, frame, encodeFrame, whole, readFrame, frameRead}
+use Rattle.wire_frame.specs.declared.frame.FrameRead.{FrameRead}
 use Rattle.wire_response.specs.Response.{response, short, r3}
-use Rattle.wire_frame.proofs.Frames.{content, bitsOf-first, bitsOf-content, read-content, same-last, turned, turned-opened, decode-opened, encode-sent, image-frame, right-frame}
+use Rattle.wire_frame.proofs.Frames.{content, bitsOf-first, bitsOf-content, read-content, same-last, turned, turned-read, decode-frame, encode-framed, image-frame, right-frame}
 
 -- ---- the first byte
 
@@ -72,10 +72,10 @@ module _ (index : ℕ) (rest : List Slot) (s : List ℕ) where
 
 module _ (index : ℕ) (rest : List Slot) where
   decode-short : (s : List ℕ) → Bytes s → width rest ≡ 32 → ((bs : List Bool) → judged rest bs ≡ true)
-      → decode (short index rest) s ≡ turned (within rest 32) (opening true index s)
+      → decode (short index rest) s ≡ turned (within rest 32) (readFrame true index s)
   unfolding width whole read
   decode-short s b hw plain =
-      decode-opened (response index rest) (crc7From 0) (within rest 32) true index s
+      decode-frame (response index rest) (crc7From 0) (within rest 32) true index s
       (λ l.
       right-frame (response index rest) s (ap (λ (k : ℕ). 1 + (1 + (6 + k))) hw)
       ∙ ap (λ (p : Bool). p && same (drop 40 (bitsOf s)) (closing true (take 40 (bitsOf s))))
@@ -88,17 +88,17 @@ module _ (index : ℕ) (rest : List Slot) where
       ∙ read-content rest [] s hw l
       ∙ append-nil (within rest 32 (content s)))
 
-  pub opened-short : (s : List ℕ) → Bytes s → width rest ≡ 32 → ((bs : List Bool) → judged rest bs ≡ true) → (r q : Opened) → r ≡ q
-      → opened r ≡ opening true index s → turned (within rest 32) (opened q) ≡ decode (short index rest) s
-  opened-short s b hw plain r q p e =
-      turned-opened (within rest 32) r q (opening true index s) (decode (short index rest) s) p e (decode-short s b hw plain)
+  pub read-short : (s : List ℕ) → Bytes s → width rest ≡ 32 → ((bs : List Bool) → judged rest bs ≡ true) → (r q : FrameRead) → r ≡ q
+      → frameRead r ≡ readFrame true index s → turned (within rest 32) (frameRead q) ≡ decode (short index rest) s
+  read-short s b hw plain r q p e =
+      turned-read (within rest 32) r q (readFrame true index s) (decode (short index rest) s) p e (decode-short s b hw plain)
 
   pub encode-short : (vs out : List ℕ) (p : Bool) (w : ℕ) → fits (response index rest) vs ≡ p
       → (p ≡ true → write rest vs ≡ bits 32 w)
-      → encode (short index rest) vs out ≡ sent p true index w out
+      → encode (short index rest) vs out ≡ encodeFrame p true index w out
   unfolding fits
   encode-short vs out p w h e =
-      encode-sent (short index rest) vs out p true index w h
+      encode-framed (short index rest) vs out p true index w h
       (λ t.
       image-frame (response index rest) vs index w
       (write-index index rest vs (ltb-true index 64 (and-eq-true-iff (ltb index (2 ^ 6)) (fits rest vs) .0 (h ∙ t) .0))
@@ -125,11 +125,11 @@ ones-byte b h =
     let e1 : b ≡ 255 = eqb-true b 255 e in
     both (eq-eqb (b / 2 ^ 1 % 2 ^ 7) 127 (omega arith)) (both (eq-eqb (b / 2 ^ 0 % 2 ^ 1) 1 (omega arith)) refl))
 
-decode-ones : (s : List ℕ) → Bytes s → decode r3 s ≡ turned (within (field 32 ∷ []) 32) (opening false 63 s)
+decode-ones : (s : List ℕ) → Bytes s → decode r3 s ≡ turned (within (field 32 ∷ []) 32) (readFrame false 63 s)
 unfolding width whole read judged judgedIn ones bits closing within
 decode-ones s b =
     let rest = field 32 ∷ ones in
-    decode-opened (response 63 rest) bare (within (field 32 ∷ []) 32) false 63 s
+    decode-frame (response 63 rest) bare (within (field 32 ∷ []) 32) false 63 s
     (λ l.
     right-bare r3 s refl (omega arith)
     ∙ judged-index 63 rest s (omega arith) b
@@ -143,11 +143,11 @@ decode-ones s b =
     ∙ sym (same-last false s 255 l b (omega arith) refl)))
     (λ l. read-index 63 rest s (omega arith) ∙ read-content (field 32 ∷ []) ones s refl l)
 
-pub opened-ones : (s : List ℕ) → Bytes s → (r q : Opened) → r ≡ q
-    → opened r ≡ opening false 63 s → turned (within (field 32 ∷ []) 32) (opened q) ≡ decode r3 s
-opened-ones s b r q p e =
-    turned-opened (within (field 32 ∷ []) 32) r q (opening false 63 s) (decode r3 s) p e (decode-ones s b)
+pub read-ones : (s : List ℕ) → Bytes s → (r q : FrameRead) → r ≡ q
+    → frameRead r ≡ readFrame false 63 s → turned (within (field 32 ∷ []) 32) (frameRead q) ≡ decode r3 s
+read-ones s b r q p e =
+    turned-read (within (field 32 ∷ []) 32) r q (readFrame false 63 s) (decode r3 s) p e (decode-ones s b)
 
-pub encode-ones : (ocr : ℕ) (out : List ℕ) → ocr < 2 ^ 32 → encode r3 (ocr ∷ []) out ≡ sent true false 63 ocr out
+pub encode-ones : (ocr : ℕ) (out : List ℕ) → ocr < 2 ^ 32 → encode r3 (ocr ∷ []) out ≡ encodeFrame true false 63 ocr out
 unfolding image frame closing ended write bits fits
-encode-ones ocr out h = encode-sent r3 (ocr ∷ []) out true false 63 ocr (simp (lt-ltb ocr (2 ^ 32) h)) (λ t. refl)
+encode-ones ocr out h = encode-framed r3 (ocr ∷ []) out true false 63 ocr (simp (lt-ltb ocr (2 ^ 32) h)) (λ t. refl)

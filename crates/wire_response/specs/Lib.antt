@@ -1,3 +1,4 @@
--- What a reader must believe of responses: each kind's layout, and the card status.
+-- What a reader must believe of responses: each kind's layout, the card status, and the claims.
 pub mod Response
 pub mod Status
+pub mod Claims

@@ -1,10 +1,13 @@
 -- A first mark is wanted; then the start check, and the second mark.
 use mathlib.Core.Path.{sym, ap, ap₂, _∙_}
-use borrow.Author.Needs.{needs}
+use Prim.Native.Nat.{ℕ}
 use borrow.Author.Tests.{not-true, not-false}
-use Rattle.card_model.specs.Execute.{eraseEnd, dropErase}
-use Rattle.card_transfer.specs.Start.{outcome}
-use Rattle.card_transfer.proofs.Answers.{answered-by}
+use Rattle.card_model.specs.declared.card.Core.{Core}
+use Rattle.card_model.specs.declared.done.Response.the-variants.{R1}
+use Rattle.card_model.specs.Checks.{firstFailure, addressChecks}
+use Rattle.card_model.specs.Execute.{ran, dropErase, eraseEnd}
+use Rattle.card_start.specs.Verdict.{outcome}
+use borrow.Author.Needs.{needs}
 use Rattle.card_erase.proofs.erase_end.Statement.{statement}
 use Rattle.card_erase.proofs.erase_end.Tie as tie
 
@@ -18,17 +21,18 @@ erase-end-spec =
     (λ c κs. search needs)
     (λ c κs. search needs)
     (λ c.
-    let core = c .before .before .before .before .before .before .args .c in
     rw (sym (c .before .before .before .before .is-set .ensures) ∙ not-true _ (c .before .before .before .if1 .taken))
-    (answered-by _ _ _ _ _ (c .answered .ensures)
-    (c .before .drop-erase .ensures ∙ ap (dropErase core) (c .before .before .erase-seq-error .ensures))))
+    (c .ran .ensures ∙ ap (λ (x : Core). ran x R1) (c .before .drop-erase .ensures ∙ ap dropErase (c .before .before .raise .ensures))))
+    (λ c κs. search needs)
     (λ c κs. search needs)
     (λ c κs. search needs)
     (λ c κs. search needs)
     (λ c κs. search needs)
     (λ c.
-    let core = c .before .before .before .before .before .before .before .args .c in
-    rw (sym (c .before .before .before .before .before .is-set .ensures) ∙ not-false _ (c .before .before .before .before .if1 .left))
-    (c .unless .ensures
-    ∙ ap₂ (outcome core) (c .before .before .before .address-check .ensures)
-    (answered-by _ _ _ _ _ (c .before .answered2 .ensures) (c .before .before .with-erase .ensures)))))
+    let a = c .before .before .before .before .before .before .before .before .args in
+    rw (sym (c .before .before .before .before .before .before .is-set .ensures) ∙ not-false _ (c .before .before .before .before .before .if1 .left))
+    (c .checked .ensures
+    ∙ ap₂ (outcome (a .c))
+    (c .before .before .before .address-check .ensures
+    ∙ ap (λ (top : ℕ). firstFailure (addressChecks top (a .second))) (c .before .before .before .before .capacity .ensures))
+    (c .before .ran2 .ensures ∙ ap (λ (x : Core). ran x R1) (c .before .before .with-erase .ensures)))))

@@ -1,9 +1,12 @@
 -- The start check, and the first mark.
-use mathlib.Core.Path.{ap₂, _∙_}
+use mathlib.Core.Path.{ap, ap₂, _∙_}
+use Prim.Native.Nat.{ℕ}
+use Rattle.card_model.specs.declared.card.Core.{Core}
+use Rattle.card_model.specs.declared.done.Response.the-variants.{R1}
+use Rattle.card_model.specs.Checks.{firstFailure, addressChecks}
+use Rattle.card_model.specs.Execute.{ran, eraseStart}
+use Rattle.card_start.specs.Verdict.{outcome}
 use borrow.Author.Needs.{needs}
-use Rattle.card_model.specs.Execute.{eraseStart}
-use Rattle.card_transfer.specs.Start.{outcome}
-use Rattle.card_transfer.proofs.Answers.{answered-by}
 use Rattle.card_erase.proofs.erase_start.Statement.{statement}
 use Rattle.card_erase.proofs.erase_start.Tie as tie
 
@@ -16,7 +19,11 @@ erase-start-spec =
     (λ c κs. search needs)
     (λ c κs. search needs)
     (λ c κs. search needs)
+    (λ c κs. search needs)
     (λ c.
-    c .unless .ensures
-    ∙ ap₂ (outcome (c .before .before .before .before .args .c)) (c .before .before .before .address-check .ensures)
-    (answered-by _ _ _ _ _ (c .before .answered .ensures) (c .before .before .with-erase .ensures))))
+    let a = c .before .before .before .before .before .args in
+    c .checked .ensures
+    ∙ ap₂ (outcome (a .c))
+    (c .before .before .before .address-check .ensures
+    ∙ ap (λ (top : ℕ). firstFailure (addressChecks top (a .first))) (c .before .before .before .before .capacity .ensures))
+    (c .before .ran .ensures ∙ ap (λ (x : Core). ran x R1) (c .before .before .with-erase .ensures))))

@@ -1,10 +1,11 @@
 -- The next address, and the move.
 use mathlib.Core.Path.{ap, _∙_}
-use borrow.Author.Needs.{needs}
+use Rattle.card_model.specs.declared.card.Core.{Core}
 use Rattle.card_model.specs.declared.command.Command.the-variants.{SendRelativeAddr}
+use Rattle.card_model.specs.declared.done.Response.the-variants.{R6}
 use Rattle.card_model.specs.Record.{withRca}
-use Rattle.card_model.specs.Execute.{moved}
-use Rattle.card_transfer.proofs.Answers.{answered-by}
+use Rattle.card_model.specs.Execute.{ran, moved}
+use borrow.Author.Needs.{needs}
 use Rattle.card_identify.proofs.send_relative_addr.Statement.{statement}
 use Rattle.card_identify.proofs.send_relative_addr.Tie as tie
 
@@ -18,6 +19,7 @@ send-relative-addr-spec =
     (λ c κs. search needs)
     (λ c.
     let core = c .before .before .before .before .args .c in
-    answered-by _ _ _ _ _ (c .answered .ensures)
+    c .ran .ensures
+    ∙ ap (λ (x : Core). ran x R6)
     (c .before .moved .ensures
     ∙ ap (moved SendRelativeAddr) (c .before .before .with-rca .ensures ∙ ap (withRca core) (c .before .before .before .next-rca .ensures)))))

@@ -1,54 +1,81 @@
 -- Refused, or the state behind busy.
-use mathlib.Core.Path.{_≡_, sym, ap, _∙_}
-use mathlib.Core.Bool.{false}
+use mathlib.Core.Path.{_≡_, refl, ap, _∙_}
+use mathlib.Core.Bool.{Bool, false, not}
 use mathlib.Core.List.{[]}
-use mathlib.Core.Option.{none}
 use borrow.Author.Needs.{needs}
-use Rattle.card_model.specs.declared.answer.Answer.the-variants.{Refused}
-use Rattle.card_model.specs.Soundness.{unsound}
+use lib.ListN.{length}
+use Rattle.card_model.specs.declared.state.Open.{Open}
+use Rattle.card_model.specs.State.{openOf, busy}
+use Rattle.card_model.specs.Data.{overFrom}
 use Rattle.card_model.specs.Step.{busyOver, step, overed}
 use Rattle.card_call.specs.declared.Stepped.{Stepped}
-use Rattle.card_call.specs.Seen.{returned, stepped, seen}
-use Rattle.card_open.specs.Opened.{waits}
-use Rattle.card_open.proofs.Turns.{over}
-use Rattle.card_open.proofs.Calls.{refused-as, row-2, row-3}
-use Rattle.card_power.proofs.Calls.{over-5, over-on}
+use Rattle.card_call.specs.Seen.{returned, stepped, turned}
+use Rattle.card_call.proofs.Turns.{silent, ended, by-open}
+use Rattle.card_refuse.specs.Rows.{rowsOf}
+use Rattle.card_refuse.proofs.Refusals.{refuses, runs}
 use Rattle.card_power.proofs.busy_over.Statement.{statement}
 use Rattle.card_power.proofs.busy_over.Tie as tie
 
-abbrev start : tie.After-open → tie.Start
-start o = o .before .before .before .before .before .before .before .before
+abbrev start : tie.After-refusal → tie.Start
+start n = n .before .before .before .before .before .before .before .before
 
-sound : (o : tie.After-open) → unsound (start o .args .card .core) ≡ false
-sound o = sym (o .before .before .before .before .before .unsound .ensures) ∙ o .before .before .before .before .if1 .left
+abbrev opened : tie.After-refusal → tie.After-open
+opened n = n .before .before .before .before
 
-closed : (o : tie.After-open) (r : Stepped) → r ≡ record { answer = Refused 5; card = start o .args .card } → waits (o .«open» .result) ≡ none
-    → returned r (start o .args .memory .now) [] ≡ stepped (start o .args .card) (start o .args .memory .now) busyOver
-closed o r h e =
-    refused-as _ _ _ 5 _ _ h (over-5 _ _ (sound o) (o .before .before .if2 .left) (o .«open» .ensures .next ∙ e))
+rows : (n : tie.After-refusal) → let args = start n .args in
+    n .before .before .rows .result
+    ≡ rowsOf (args .card .core) (length (args .memory .now)) false false (not (busy (openOf (args .card .core .bus .state))))
+rows n =
+    let args = start n .args in
+    n .before .before .rows .ensures
+    ∙ ap (λ (b : Bool). rowsOf (args .card .core) (length (args .memory .now)) false false (not b))
+    (n .before .before .before .busy .ensures ∙ ap busy (opened n .«open» .ensures))
 
-ended : tie.Need-returns-3
-ended c =
-    let o = c .before .before .before .before .before in
-    over _ _ _ _ _ _ (c .before .with-state .ensures) (c .answered .ensures)
-    ∙ sym (ap seen (over-on _ _ (sound o) (o .before .before .if2 .left) _ (o .«open» .ensures .next ∙ ap waits (c .before .before .before .open2 .given .1))))
+no : tie.Need-returns
+unfolding step overed
+no c =
+    let n = c .before .before in
+    refuses _ _ _ _ (n .refusal .ensures) (rows n) _ _ _ _ _ (c .before .if1 .taken) (c .refused .ensures)
+
+-- by what is open
+ran : (e : tie.Else1) (r : Stepped) (q : Open) → let s = start (e .before) in
+    opened (e .before) .«open» .result ≡ q
+    → returned r (s .args .memory .now) [] ≡ turned (s .args .card) (s .args .memory .now) [] (overFrom q (s .args .card .core))
+    → returned r (s .args .memory .now) [] ≡ stepped (s .args .card) (s .args .memory .now) busyOver
+unfolding step overed
+ran e r q k h =
+    runs _ _ _ _ (e .before .refusal .ensures) (rows (e .before)) _ _ _ _ _ (e .if1 .left)
+    (by-open _ _ _ (λ x. overFrom x (start (e .before) .args .card .core)) (opened (e .before) .«open» .ensures) k h)
+
+over : tie.Need-returns-2
+unfolding overFrom
+over c =
+    ran (c .before .before .before .before .before) (c .answered .result) _ (c .before .before .before .open2 .given .1)
+    (ended (c .answered .result) _ _ _ (c .before .with-state .ensures) refl _ _ (c .answered .ensures))
+
+nothing : tie.Need-returns-3
+unfolding overFrom
+nothing c = ran (c .before .before .before) (c .answered2 .result) _ (c .before .enum-told .given .1) (silent (c .answered2 .result) _ _ _ refl refl _ _ (c .answered2 .ensures))
+
+read : tie.Need-returns-4
+unfolding overFrom
+read c = ran (c .before .before .before) (c .answered3 .result) _ (c .before .enum-told2 .given .1) (silent (c .answered3 .result) _ _ _ refl refl _ _ (c .answered3 .ensures))
+
+write : tie.Need-returns-5
+unfolding overFrom
+write c = ran (c .before .before .before) (c .answered4 .result) _ (c .before .enum-told3 .given .1) (silent (c .answered4 .result) _ _ _ refl refl _ _ (c .answered4 .ensures))
 
 pub busy-over-spec : {M : Type 1} → statement M
-unfolding step overed
 busy-over-spec =
     tie.close
     (tie.spec
     (λ c κs. search needs)
     (λ c κs. search needs)
-    (λ c. refused-as _ _ _ 2 _ _ (c .refused .ensures) (row-2 _ _ _ _ _ (sym (c .before .before .unsound .ensures) ∙ c .before .if1 .taken)))
-    (λ c. search needs)
+    (λ c κs. search needs)
     (λ c. search needs)
     (λ c κs. search needs)
-    (λ c.
-    let test = c .before .before .before in
-    refused-as _ _ _ 3 _ _ (c .refused2 .ensures)
-    (row-3 _ _ _ _ _ (sym (test .before .unsound .ensures) ∙ test .if1 .left) (c .before .if2 .taken)))
     (λ c κs. search needs)
+    no
     (λ c. search needs)
     (λ c κs. search needs)
     (λ c κs. search needs)
@@ -58,7 +85,7 @@ busy-over-spec =
     (λ c κs. search needs)
     (λ c. search needs)
     (λ c κs. search needs)
-    ended
-    (λ c. closed (c .before .before .before) _ (c .refused3 .ensures) (ap waits (c .before .enum-told .given .1)))
-    (λ c. closed (c .before .before .before) _ (c .refused4 .ensures) (ap waits (c .before .enum-told2 .given .1)))
-    (λ c. closed (c .before .before .before) _ (c .refused5 .ensures) (ap waits (c .before .enum-told3 .given .1))))
+    over
+    nothing
+    read
+    write)

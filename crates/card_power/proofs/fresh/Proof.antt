@@ -11,4 +11,6 @@ fresh-spec =
     (tie.spec
     (λ c κs. search needs)
     (λ c κs. search needs)
-    (λ c. rw (c .before .csd-of .ensures, c .no-bits .ensures)))
+    (λ c κs. search needs)
+    (λ c. search needs)
+    (λ c. rw (c .before .before .csd-of .ensures, c .before .no-bits .ensures, c .no-erase .ensures)))

@@ -1,28 +1,57 @@
--- The two refusals, or the record of a power-up.
-use mathlib.Core.Path.{sym, _∙_}
+-- Refused, or the record of a power-up.
+use mathlib.Core.Path.{_≡_, ap, ap₂}
+use mathlib.Core.Bool.{Bool, false, not}
+use mathlib.Core.List.{[]}
+use Prim.Native.Nat.{ℕ}
 use borrow.Author.Needs.{needs}
-use borrow.Author.Tests.{not-true, not-false}
-use Rattle.card_open.proofs.Calls.{refused-as}
-use Rattle.card_power.proofs.Calls.{power-3, power-6, power-on}
+use lib.Dec.{eqb}
+use lib.ListN.{length}
+use Rattle.card_model.specs.declared.answer.Answer.the-variants.{Over}
+use Rattle.card_model.specs.declared.answer.Rows.{Rows}
+use Rattle.card_model.specs.declared.card.Card.{Card}
+use Rattle.card_model.specs.Step.{step, poweredUp}
+use Rattle.card_call.specs.Seen.{returned}
+use Rattle.card_refuse.proofs.Refusals.{refuses, runs}
 use Rattle.card_power.proofs.power_up.Statement.{statement}
 use Rattle.card_power.proofs.power_up.Tie as tie
+
+-- the rows, by the size that the settings say and whether they are allowed
+abbrev rowsWith : ℕ → ℕ → Bool → Rows
+rowsWith memory size good = record {
+  size = false;
+  unsound = false;
+  memory = not (eqb memory size);
+  buffer = false;
+  closed = false;
+  settings = not good;
+}
+
+no : tie.Need-returns
+unfolding step poweredUp
+no c =
+    let allowed = c .before .before .before .before in
+    let memory = length (allowed .before .before .before .args .memory .now) in
+    refuses _ _ _ _ (c .before .before .refusal .ensures) (ap₂ (rowsWith memory) (allowed .before .capacity .ensures) (allowed .allowed .ensures))
+    _ _ _ _ _ (c .before .if1 .taken) (c .refused .ensures)
+
+yes : tie.Need-returns-2
+unfolding step poweredUp
+yes c =
+    let allowed = c .before .before .before .before in
+    let memory = allowed .before .before .before .args .memory .now in
+    runs _ _ _ _ (c .before .before .refusal .ensures) (ap₂ (rowsWith (length memory)) (allowed .before .capacity .ensures) (allowed .allowed .ensures))
+    _ _ _ _ _ (c .before .if1 .left)
+    (ap (λ (k : Card). returned (record { answer = Over; card = k }) memory []) (c .start .ensures))
 
 pub power-up-spec : {M : Type 1} → statement M
 power-up-spec =
     tie.close
     (tie.spec
+    (λ c κs. search needs)
+    (λ c κs. search needs)
     (λ c. search needs)
-    (λ c. search needs)
-    (λ c κs. search needs)
-    (λ c. refused-as _ _ _ 3 _ _ (c .refused .ensures) (power-3 _ _ _ (c .before .if1 .taken)))
     (λ c κs. search needs)
     (λ c κs. search needs)
-    (λ c.
-    let test = c .before .before in
-    refused-as _ _ _ 6 _ _ (c .refused2 .ensures)
-    (power-6 _ _ _ (test .before .if1 .left) (sym (test .allowed .ensures) ∙ not-true _ (c .before .if2 .taken))))
+    no
     (λ c κs. search needs)
-    (λ c.
-    let test = c .before .before in
-    let entry = test .before .before .before .before in
-    power-on (entry .args .card) _ _ (test .before .if1 .left) _ (sym (test .allowed .ensures) ∙ not-false _ (c .before .if2 .left)) (c .start .ensures)))
+    yes)

@@ -1,13 +1,16 @@
--- A byte address is protected as its group is.
+-- With the whole card, or by the mark of its group.
+use mathlib.Core.Path.{ap, _∙_}
 use borrow.Author.Needs.{needs}
-use Rattle.card_model.specs.Checks.{guarded}
+use Rattle.card_model.specs.Protect.{guarded, marked}
 use Rattle.card_protect.proofs.guarded.Statement.{statement}
 use Rattle.card_protect.proofs.guarded.Tie as tie
 
-returned : tie.Need-returns
-unfolding guarded
-returned c = c .guarded-group .ensures
-
 pub guarded-spec : {M : Type 1} → statement M
+unfolding guarded
 guarded-spec =
-    tie.close (tie.spec (λ c κs. search needs) returned)
+    tie.close
+    (tie.spec
+    (λ c. rw (c .if1 .taken))
+    (λ c κs. search needs)
+    (λ c κs. search needs)
+    (λ c. rw (c .before .before .if1 .left) (c .marked .ensures ∙ ap (marked (c .before .before .before .before .args .marks .now)) (c .before .group-of .ensures))))

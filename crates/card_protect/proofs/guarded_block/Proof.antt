@@ -1,21 +1,23 @@
--- A block is protected as its group of 32 is.
+-- A block is protected as its group is.
 use mathlib.Core.Path.{_≡_, ap, _∙_}
-use mathlib.Core.Bool.{_||_}
-use Prim.Native.Nat.{ℕ, _*_, _/_}
+use Prim.Native.Nat.{_*_, _/_}
 use native.Mathlib.Omega.{arith}
 use borrow.Author.Needs.{needs}
-use Rattle.card_model.specs.Checks.{guarded, marked, protectedCard}
+use Rattle.card_model.specs.Settings.{BLOCK, GROUP}
+use Rattle.card_model.specs.Protect.{guarded, marked}
 use Rattle.card_protect.proofs.guarded_block.Statement.{statement}
 use Rattle.card_protect.proofs.guarded_block.Tie as tie
 
-returned : tie.Need-returns
-unfolding guarded
-returned c =
-    let core = c .before .args .c in
-    let block = c .before .args .block in
-    let e : block / 32 ≡ block * 512 / (32 * 512) = omega arith in
-    c .guarded-group .ensures ∙ ap (λ (g : ℕ). protectedCard (core .settings) || marked (core .marks) g) e
-
 pub guarded-block-spec : {M : Type 1} → statement M
+unfolding guarded
 guarded-block-spec =
-    tie.close (tie.spec (λ c. search needs) (λ c κs. search needs) returned)
+    tie.close
+    (tie.spec
+    (λ c. rw (c .if1 .taken))
+    (λ c. search needs)
+    (λ c. search needs)
+    (λ c κs. search needs)
+    (λ c.
+    let a = c .before .before .before .args in
+    let e : a .block / GROUP ≡ a .block * BLOCK / (GROUP * BLOCK) = omega arith in
+    rw (c .before .if1 .left) (c .marked-group .ensures ∙ ap (marked (a .marks .now)) e)))

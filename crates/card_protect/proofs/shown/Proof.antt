@@ -8,9 +8,6 @@ pub shown-spec : {M : Type 1} → statement M
 shown-spec =
     tie.close
     (tie.spec
-    (λ c. search needs)
-    (λ c. search needs)
-    (λ c. search needs)
     (λ c. simp (le-ltb _ _ (c .if1 .taken)))
     (λ c κs. search needs)
-    (λ c. simp (lt-ltb _ _ (c .before .before .if1 .left), c .marked .ensures)))
+    (λ c. simp (lt-ltb _ _ (c .before .if1 .left), c .marked-group .ensures)))

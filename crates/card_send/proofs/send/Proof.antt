@@ -6,24 +6,17 @@ use Rattle.card_send.proofs.send.Tie as tie
 
 sent : tie.Need-returns
 sent c memory =
-    let encoded = c .before .before .before .before .before .before in
-    sent-as _ (encoded .before .before .before .before .args .card) _ memory _ _ _ _ (c .before .before .sent .given .1) (c .answered .ensures) (encoded .encode .ensures)
-
-refused : tie.Need-returns-2
-refused c memory =
-    let encoded = c .before .before .before .before .before .before in
-    sent-as _ (encoded .before .before .before .before .args .card) _ memory _ _ _ _ (c .before .before .sent2 .given .1) (c .answered2 .ensures) (encoded .encode .ensures)
+    let encoded = c .before .before .before .before .before in
+    sent-as (c .answered .result) (encoded .before .before .before .before .before .args .card) memory _ _ _ _ (encoded .encode .result) _
+    (c .answered .ensures) (c .before .before .report .ensures) (c .before .with-state .ensures) (encoded .encode .ensures)
 
 pub send-spec : {M : Type 1} → statement M
 send-spec =
     tie.close
     (tie.spec
     (λ c κs. search needs)
-    (λ c. search needs)
+    (λ c κs. search needs)
+    (λ c κs. search needs)
     (λ c κs. search needs)
     (λ c. search needs)
-    (λ c κs. search needs)
-    (λ c. search needs)
-    sent
-    (λ c. search needs)
-    refused)
+    sent)

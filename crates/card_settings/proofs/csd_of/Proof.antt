@@ -12,4 +12,6 @@ csd-of-spec =
     (λ c κs. search needs)
     (λ c κs. search needs)
     (λ c κs. search needs)
+    (λ c. search needs)
+    (λ c. search needs)
     (λ c. rw (c .mult .ensures, c .before .size .ensures, c .before .before .size-pair .ensures)))

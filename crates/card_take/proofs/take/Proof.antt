@@ -1,73 +1,92 @@
 -- Refused, or the turn of the open read transfer.
-use mathlib.Core.Path.{_≡_, sym, ap, _∙_}
-use mathlib.Core.Bool.{false}
-use mathlib.Core.Option.{none}
+use mathlib.Core.Path.{_≡_, refl, sym, ap, _∙_}
+use mathlib.Core.Bool.{Bool, false, not}
+use mathlib.Core.List.{List}
+use Prim.Native.Nat.{ℕ}
 use borrow.Author.Needs.{needs}
-use Rattle.card_model.specs.declared.answer.Answer.the-variants.{Refused}
-use Rattle.card_model.specs.Soundness.{unsound}
-use Rattle.card_model.specs.Step.{takeBlock, step, taken}
+use lib.Dec.{ltb}
+use lib.ListN.{length}
+use Rattle.card_model.specs.declared.answer.Answer.the-variants.{Silence}
+use Rattle.card_model.specs.declared.state.Open.{Open}
+use Rattle.card_model.specs.State.{openOf, reading}
+use Rattle.card_model.specs.Data.{takeFrom}
+use Rattle.card_model.specs.Step.{takeBlock, step, taken, blockRoom}
 use Rattle.card_call.specs.declared.Stepped.{Stepped}
-use Rattle.card_call.specs.Seen.{returned, stepped, seen}
-use Rattle.card_open.specs.Opened.{reads}
-use Rattle.card_open.proofs.Calls.{refused-as, row-2, row-3}
-use Rattle.card_take.proofs.Takes.{takes, take-4, take-5, take-on}
+use Rattle.card_call.specs.Seen.{returned, stepped, turned}
+use Rattle.card_call.proofs.Turns.{after, silent, by-open}
+use Rattle.card_refuse.specs.Rows.{rowsOf}
+use Rattle.card_refuse.proofs.Refusals.{none-applies, refuses, runs}
+use Rattle.card_take.proofs.Takes.{takes, unread}
 use Rattle.card_take.proofs.take.Statement.{statement}
 use Rattle.card_take.proofs.take.Tie as tie
 
-abbrev start : tie.After-open → tie.Start
-start o = o .before .before .before .before .before .before .before .before .before .before
+abbrev start : tie.After-refusal → tie.Start
+start n = n .before .before .before .before .before .before .before .before .before
 
-sound : (o : tie.After-open) → unsound (start o .args .card .core) ≡ false
-sound o = sym (o .before .before .before .before .before .before .unsound .ensures) ∙ o .before .before .before .before .before .if1 .left
+abbrev opened : tie.After-refusal → tie.After-open
+opened n = n .before .before .before .before
 
-closed : (o : tie.After-open) (r : Stepped) → r ≡ record { answer = Refused 5; card = start o .args .card } → reads (o .«open» .result) ≡ none
-    → returned r (start o .args .memory .now) (start o .args .out .now)
-    ≡ stepped (start o .args .card) (start o .args .memory .now) (takeBlock (start o .args .out .now))
-closed o r h e =
-    refused-as _ _ _ 5 _ _ h
-    (take-5 _ _ _ (sound o) (o .before .before .before .if2 .left) (o .before .before .if3 .left) (o .«open» .ensures .source ∙ e))
+rows : (n : tie.After-refusal) → let args = start n .args in
+    n .before .before .rows .result
+    ≡ rowsOf (args .card .core) (length (args .memory .now)) false (ltb (length (args .out .now)) (blockRoom (args .card .core))) (not (reading (openOf (args .card .core .bus .state))))
+rows n =
+    let args = start n .args in
+    n .before .before .rows .ensures
+    ∙ ap (λ (b : Bool). rowsOf (args .card .core) (length (args .memory .now)) false (ltb (length (args .out .now)) (blockRoom (args .card .core))) (not b))
+    (n .before .before .before .reading .ensures ∙ ap reading (opened n .«open» .ensures))
 
-sent : tie.Need-returns-4
+no : tie.Need-returns
+unfolding step taken
+no c =
+    let n = c .before .before in
+    refuses _ _ _ _ (n .refusal .ensures) (rows n) _ _ _ _ (c .refused .result) (c .before .if1 .taken) (c .refused .ensures)
+
+-- by what is open
+ran : (e : tie.Else1) (r : Stepped) (made : List ℕ) (q : Open) → let args = start (e .before) .args in
+    opened (e .before) .«open» .result ≡ q
+    → returned r (args .memory .now) made
+    ≡ turned (args .card) (args .memory .now) (args .out .now) (takeFrom q (args .card .core) (args .memory .now))
+    → returned r (args .memory .now) made ≡ stepped (args .card) (args .memory .now) (takeBlock (args .out .now))
+unfolding step taken
+ran e r made q k h =
+    let args = start (e .before) .args in
+    runs _ _ _ _ (e .before .refusal .ensures) (rows (e .before)) _ _ _ _ _ (e .if1 .left)
+    (by-open _ _ _ (λ x. takeFrom x (args .card .core) (args .memory .now)) (opened (e .before) .«open» .ensures) k h)
+
+sent : tie.Need-returns-2
+unfolding takeFrom
 sent c =
-    let o = c .before .before .before .before .before .before .before in
-    c .before .before .take-from .ensures
-    ∙ sym (ap seen
-    (take-on _ _ _ (sound o) (o .before .before .before .if2 .left) (o .before .before .if3 .left) _
-    (o .«open» .ensures .source ∙ ap reads (c .before .before .before .before .before .open2 .given .1))))
+    ran (c .before .before .before .before .before .before .before) (c .before .before .take-source .result) _ _
+    (c .before .before .before .before .before .open2 .given .1)
+    (c .before .before .take-source .ensures)
+
+-- where no read is open
+other : tie.Need-returns-3
+other c =
+    let e = c .before in
+    let args = start (e .before) .args in
+    let card = args .card in
+    ran e (after card (card .core) Silence) (args .out .now) (opened (e .before) .«open» .result) refl
+    (silent (after card (card .core) Silence) card (card .core) (card .core) refl refl (args .memory .now) (args .out .now) refl
+    ∙ ap (turned card (args .memory .now) (args .out .now)) (sym (unread (opened (e .before) .«open» .result) (c .match .keys2) (card .core) (args .memory .now))))
 
 pub take-spec : {M : Type 1} → statement M
-unfolding step taken
 take-spec =
     tie.close
     (tie.spec
     (λ c κs. search needs)
-    (λ c κs. search needs)
-    (λ c. refused-as _ _ _ 2 _ _ (c .refused .ensures) (row-2 _ _ _ _ _ (sym (c .before .before .unsound .ensures) ∙ c .before .if1 .taken)))
     (λ c. search needs)
     (λ c. search needs)
     (λ c κs. search needs)
-    (λ c.
-    let test = c .before .before .before in
-    refused-as _ _ _ 3 _ _ (c .refused2 .ensures)
-    (row-3 _ _ _ _ _ (sym (test .before .unsound .ensures) ∙ test .if1 .left) (c .before .if2 .taken)))
     (λ c κs. search needs)
-    (λ c.
-    let test = c .before .before .before .before in
-    refused-as _ _ _ 4 _ _ (c .refused3 .ensures)
-    (take-4 _ _ _ (sym (test .before .unsound .ensures) ∙ test .if1 .left) (c .before .before .if2 .left) (c .before .if3 .taken)))
+    (λ c. search needs)
     (λ c κs. search needs)
+    (λ c κs. search needs)
+    no
     (λ c. search needs)
     (λ c κs.
-    let o = c .before .before .before .before in
-    takes _ _ _ (sound o) (o .before .before .before .if2 .left) (o .before .before .if3 .left))
-    (λ c. search needs)
-    (λ c κs. search needs)
-    (λ c. search needs)
-    (λ c κs. search needs)
-    (λ c. search needs)
-    (λ c κs. search needs)
+    let e = c .before .before .before .before in
+    takes _ _ _ _ (none-applies _ _ _ _ (e .before .refusal .ensures) (rows (e .before)) (e .if1 .left)))
     (λ c. search needs)
     sent
-    (λ c. closed (c .before .before .before) _ (c .refused4 .ensures) (ap reads (c .before .enum-told .given .1)))
-    (λ c. closed (c .before .before .before) _ (c .refused5 .ensures) (ap reads (c .before .enum-told2 .given .1)))
-    (λ c. closed (c .before .before .before) _ (c .refused6 .ensures) (ap reads (c .before .enum-told3 .given .1))))
+    other)

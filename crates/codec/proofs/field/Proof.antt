@@ -8,10 +8,10 @@ pub field-spec : {M : Type 1} → statement M
 field-spec =
     tie.close
     (tie.spec
-    (λ c. shifted-out _ _ _ (c .before .fits .word .fits) (c .if1 .taken))
+    (λ c. shifted-out 64 _ _ _ (c .before .fits .word .fits) (c .if1 .taken))
     (λ c. search needs)
-    (λ c. unmasked _ _ _ (c .before .before .fits .word .fits) (c .if2 .taken))
+    (λ c. unmasked 64 _ _ _ (c .before .before .fits .word .fits) (c .if2 .taken))
     (λ c. search needs)
     (λ c. search needs)
-    (λ c. mask-room (c .before .before .args .width) (c .if2 .left))
-    (λ c. masked _ (c .before .before .args .width) (c .if2 .left)))
+    (λ c. mask-room 64 (c .before .before .args .width) (c .if2 .left))
+    (λ c. masked 64 _ (c .before .before .args .width) (c .if2 .left)))

@@ -8,6 +8,7 @@ use lib.ListN.{take, drop}
 use Rattle.crc.specs.Bits.{bits}
 use Rattle.crc.proofs.Bits.{bits-split}
 use Rattle.codec.specs.Layout.{read, write}
+use Rattle.codec.proofs.Masks.{join-bits}
 use Rattle.reg_csd.specs.declared.Csd.{Csd}
 use Rattle.reg_csd.specs.Csd.{csdSlots, csdValues}
 use Rattle.reg_cid.proofs.Words.{write-append}
@@ -43,7 +44,7 @@ words-spec =
     rw (parts at)
     (simp (
       f .first .ensures,
-      c .join .ensures 33 (lit≤ tt),
+      join-bits 33 _ _ _ _ _ (c .join .ensures) (lit≤ tt),
       c .before .before .middle .ensures,
       c .before .last .ensures,
       bits-split 10 2 (at .«c_size»),

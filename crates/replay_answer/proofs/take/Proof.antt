@@ -1,7 +1,7 @@
--- What is taken, told on the line.
+-- What is taken, on the line.
 use borrow.Author.Needs.{needs}
 use Rattle.replay_write.specs.declared.Kind.the-variants.{Block}
-use Rattle.replay_answer.proofs.Told.{told-by}
+use Rattle.replay_answer.proofs.Played.{played-by}
 use Rattle.replay_answer.proofs.take.Statement.{statement}
 use Rattle.replay_answer.proofs.take.Tie as tie
 
@@ -16,4 +16,4 @@ take-spec =
     (λ c. search needs)
     (λ c.
     let call = c .before .before .before .before .before .before .take in
-    told-by Block (call .result) _ _ _ _ _ (c .before .before .tell .ensures _) (call .ensures)))
+    played-by Block (call .result) _ _ _ _ _ (c .before .before .answer-line .ensures _) (call .ensures)))

@@ -1,7 +1,7 @@
--- What the block does, told on the line.
+-- What the block does, on the line.
 use borrow.Author.Needs.{needs}
 use Rattle.replay_write.specs.declared.Kind.the-variants.{Response}
-use Rattle.replay_answer.proofs.Told.{told-by}
+use Rattle.replay_answer.proofs.Played.{played-by}
 use Rattle.replay_call.proofs.block.Statement.{statement}
 use Rattle.replay_call.proofs.block.Tie as tie
 
@@ -17,4 +17,4 @@ block-spec =
     (λ c. search needs)
     (λ c.
     let call = c .before .before .before .before .before .before .before .block-in in
-    told-by Response (call .result) _ _ _ _ _ (c .before .before .tell .ensures _) (call .ensures)))
+    played-by Response (call .result) _ _ _ _ _ (c .before .before .answer-line .ensures _) (call .ensures)))

@@ -1,7 +1,7 @@
--- What the frame does, told on the line.
+-- What the frame does, on the line.
 use borrow.Author.Needs.{needs}
 use Rattle.replay_write.specs.declared.Kind.the-variants.{Response}
-use Rattle.replay_answer.proofs.Told.{told-by}
+use Rattle.replay_answer.proofs.Played.{played-by}
 use Rattle.replay_call.proofs.command.Statement.{statement}
 use Rattle.replay_call.proofs.command.Tie as tie
 
@@ -20,4 +20,4 @@ command-spec =
     (λ c. search needs)
     (λ c.
     let call = c .before .before .before .before .before .before .before .before .command-frame in
-    told-by Response (call .result) _ _ _ _ _ (c .before .before .tell .ensures _) (call .ensures)))
+    played-by Response (call .result) _ _ _ _ _ (c .before .before .answer-line .ensures _) (call .ensures)))

@@ -46,4 +46,4 @@ play-spec =
     (λ c. search needs)
     (λ c.
     let read = c .before .before .before .before .before .before .before .before .before .read in
-    by-word _ _ _ (read .result) (c .before .before .before .before .before .before .before .before .before .before .if1 .left) (read .ensures) _ _ (bad-line _ (read .result) (c .before .before .before .before .before .before .enum-told5 .given .1)) (refused-by _ _ _ (c .before .before .before .before .before .refused .result) _ (c .before .before .tell .ensures _) (c .before .before .before .before .before .refused .ensures))))
+    by-word _ _ _ (read .result) (c .before .before .before .before .before .before .before .before .before .before .if1 .left) (read .ensures) _ _ (bad-line _ (read .result) (c .before .before .before .before .before .before .enum-told5 .given .1)) (refused-by _ _ _ (c .before .before .before .before .before .refused .result) _ (c .before .before .answer-line .ensures _) (c .before .before .before .before .before .refused .ensures))))

@@ -34,7 +34,7 @@ read-3 c =
     read-take _ _
     (sym (cmd .begins .ensures) ∙ blk .before .before .if1 .left)
     (sym (blk .begins2 .ensures) ∙ taking .before .before .if2 .left)
-    (sym (taking .same .ensures) ∙ c .before .if3 .taken)
+    (sym (taking .equals .ensures) ∙ c .before .if3 .taken)
     (c .bare .ensures)
 
 read-4 : tie.Need-returns-4
@@ -46,8 +46,8 @@ read-4 c =
     read-over _ _
     (sym (cmd .begins .ensures) ∙ blk .before .before .if1 .left)
     (sym (blk .begins2 .ensures) ∙ taking .before .before .if2 .left)
-    (sym (taking .same .ensures) ∙ over .before .before .if3 .left)
-    (sym (over .same2 .ensures) ∙ c .before .if4 .taken)
+    (sym (taking .equals .ensures) ∙ over .before .before .if3 .left)
+    (sym (over .equals2 .ensures) ∙ c .before .if4 .taken)
     (c .bare2 .ensures)
 
 read-5 : tie.Need-returns-5
@@ -59,8 +59,8 @@ read-5 c =
     read-none _ _
     (sym (cmd .begins .ensures) ∙ blk .before .before .if1 .left)
     (sym (blk .begins2 .ensures) ∙ taking .before .before .if2 .left)
-    (sym (taking .same .ensures) ∙ over .before .before .if3 .left)
-    (sym (over .same2 .ensures) ∙ c .before .if4 .left)
+    (sym (taking .equals .ensures) ∙ over .before .before .if3 .left)
+    (sym (over .equals2 .ensures) ∙ c .before .if4 .left)
     (c .bare3 .ensures)
 
 pub read-spec : {M : Type 1} → statement M

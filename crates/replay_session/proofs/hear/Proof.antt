@@ -1,6 +1,6 @@
--- A line that ends begins anew; a byte that is kept lies in the buffer.
+-- A newline plays what is kept; any other byte is kept.
 use borrow.Author.Needs.{needs}
-use Rattle.replay_session.proofs.Kept.{within}
+use Rattle.replay_session.proofs.Heard.{ends-line, keeps-byte}
 use Rattle.replay_session.proofs.hear.Statement.{statement}
 use Rattle.replay_session.proofs.hear.Tie as tie
 
@@ -8,13 +8,15 @@ pub hear-spec : {M : Type 1} → statement M
 hear-spec =
     tie.close
     (tie.spec
-    (λ c. search needs)
-    (λ c. search needs)
-    (λ c. search needs)
+    (λ c κs. search needs)
     (λ c κs. search needs)
     (λ c. search needs)
     (λ c. search needs)
-    (λ c. search needs)
+    (λ c.
+    let entry = c .before .before .before .before .before .before .before .before .before .before in
+    ends-line (entry .args .s) _ _ _ _ _ _ (c .before .before .before .before .before .before .if1 .taken) (c .before .before .before .front .ensures) (c .before .before .answer .ensures))
     (λ c κs. search needs)
     (λ c. search needs)
-    (λ c. within _ _ _ _ _ (c .before .before .before .before .before .before .before .before .pre) (c .before .before .keep .ensures)))
+    (λ c.
+    let entry = c .before .before .before .before .before .before .before .before in
+    keeps-byte (entry .args .s) _ _ _ _ _ (c .before .before .before .before .if1 .left) (c .before .before .keep .ensures)))

@@ -1,14 +1,18 @@
--- Byte by byte.
-use mathlib.Core.Path.{_≡_}
+-- Byte by byte: at the loop's head, the bytes that are left lead to what all of them lead to.
+use mathlib.Core.Path.{_≡_, refl}
 use Prim.Native.Nat.{_≤_, _-_}
+use native.Mathlib.Omega.{arith}
 use borrow.Author.Needs.{needs}
-use lib.ListN.{length}
+use lib.ListN.{length, drop}
+use Rattle.replay_session.specs.Session.{heardAll, session}
+use Rattle.replay_session.proofs.Heard.{next-byte, all-heard}
 use Rattle.replay_session.proofs.hear_all.Statement.{statement}
 use Rattle.replay_session.proofs.hear_all.Tie as tie
 
 abbrev Inv-loop : tie.InvT-loop
 Inv-loop memory₀ line₀ chunk now₀ i₀ memory line now i =
-    (i ≤ length chunk) × (now .count ≤ length line) × (length memory ≡ length memory₀) × (length line ≡ length line₀)
+    (i ≤ length chunk) × (length memory ≡ length memory₀) × (length line ≡ length line₀)
+    × (heardAll (session now memory line) (drop i chunk) ≡ heardAll (session now₀ memory₀ line₀) chunk)
 
 abbrev μ-loop : tie.MeasureT-loop
 μ-loop memory₀ line₀ chunk now₀ i₀ memory line now i = length chunk - i
@@ -17,12 +21,14 @@ pub hear-all-spec : {M : Type 1} → statement M
 hear-all-spec =
     tie.close
     (tie.spec Inv-loop μ-loop
-    (λ c. search needs)
+    (λ c. (omega arith, refl, refl, refl))
     (λ c. search needs)
     (λ c κs. search needs)
     (λ c. search needs)
     (λ c. search needs)
+    (λ c.
+    let test = c .before .before .before .before .before .before .before .before in
+    (search needs, search needs, search needs, next-byte _ _ _ _ _ (test .loop-test .taken) (test .before .loop .inv .3) (c .before .before .before .before .hear .ensures)))
     (λ c. search needs)
     (λ c. search needs)
-    (λ c. search needs)
-    (λ c. search needs))
+    (λ c. all-heard _ _ _ (c .before .loop .i) (search needs) (c .before .loop .inv .3)))

@@ -31,7 +31,7 @@ write-spec =
     (λ c. search needs)
     (λ c.
     simp (c .before .before .before .before .before .before .answer .given .1)
-    (simp (c .before .before .before .before .front .ensures) at (c .before .before .sent .ensures)))
+    (simp (c .before .before .before .before .front .ensures) at (c .before .before .bytes-line .ensures)))
     (λ c. search needs)
     (λ c. simp (c .before .before .before .before .before .enum-told2 .given .1) (c .before .before .put2 .ensures))
     (λ c. search needs)

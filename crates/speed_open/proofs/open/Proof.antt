@@ -1,8 +1,7 @@
 -- Frame after frame.
-use mathlib.Core.Path.{ap, _∙_}
+use mathlib.Core.Path.{_∙_}
 use borrow.Author.Needs.{needs}
-use Rattle.card_model.specs.Step.{start}
-use Rattle.speed_open.proofs.Frames.{powered, after}
+use Rattle.speed_open.proofs.Frames.{after}
 use Rattle.speed_open.proofs.open.Statement.{statement}
 use Rattle.speed_open.proofs.open.Tie as tie
 
@@ -24,9 +23,7 @@ returns c =
     let h3 = h4 .before .before .before .before in
     let h2 = h3 .before .before .before .before in
     let h1 = h2 .before .before .before .before in
-    let s = h1 .before .before in
-    let w0 = powered _ _ (s .start .ensures ∙ ap start (s .before .settings .ensures)) in
-    let w1 = after _ w0 (h1 .hear .ensures) in
+    let w1 = after _ (h1 .before .before .powered .ensures) (h1 .hear .ensures) in
     let w2 = after _ w1 (h2 .hear2 .ensures) in
     let w3 = after _ w2 (h3 .hear3 .ensures) in
     let w4 = after _ w3 (h4 .hear4 .ensures) in
@@ -37,7 +34,6 @@ pub open-spec : {M : Type 1} → statement M
 open-spec =
     tie.close
     (tie.spec
-    (λ c κs. search needs)
     (λ c κs. search needs)
     (λ c κs. search needs)
     (λ c κs. search needs)

@@ -7,7 +7,7 @@ use borrow.Author.Tests.{eq-eqb, ne-eqb}
 use lib.Dec.{eqb}
 use lib.ListN.{length, take}
 use Rattle.codec.specs.Answer.{done, refused, SIZE, WRONG}
-use Rattle.wire_packet.specs.Packet.{payloadOf, packetRight}
+use Rattle.wire_packet.specs.Packet.{CHECK, payloadOf, packetRight}
 use Rattle.wire_packet.proofs.Check.{right-number}
 use Rattle.wire_packet.proofs.Answers.{decode-short, decode-long, decode-wrong, decode-done, left}
 use Rattle.wire_packet.proofs.decode.Statement.{statement}
@@ -15,10 +15,10 @@ use Rattle.wire_packet.proofs.decode.Tie as tie
 
 -- the code's test is the packet's
 tested : (c : tie.After-crc16)
-    → packetRight (c .before .before .before .before .before .before .before .args .p .now) ≡ eqb (c .before .before .word .result) (c .crc16 .result)
+    → packetRight (c .before .before .before .before .before .before .before .args .p .now) ≡ eqb (c .before .before .word32 .result) (c .crc16 .result)
 tested c =
     right-number _ (omega arith) _ _
-    (c .before .before .word .ensures)
+    (c .before .before .word32 .ensures)
     (c .crc16 .ensures)
 
 wrong : tie.Need-returns-3
@@ -28,7 +28,7 @@ right : tie.Need-returns-4
 unfolding payloadOf
 right c =
     let p = c .before .before .before .before .before .before .before .before .before .args .p .now in
-    let whole : length p - 2 ≡ length p - 2 - 0 = omega arith in
+    let whole : length p - CHECK ≡ length p - CHECK - 0 = omega arith in
     left p (done _)
     (decode-done p _
     (record {
@@ -45,7 +45,9 @@ decode-spec =
     (λ c. search needs)
     (λ c. search needs)
     (λ c. search needs)
+    (λ c. search needs)
     (λ c. left _ (refused SIZE) (decode-short _ (omega arith)))
+    (λ c. search needs)
     (λ c. search needs)
     (λ c. search needs)
     (λ c. search needs)

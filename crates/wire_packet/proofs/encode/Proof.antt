@@ -6,6 +6,7 @@ use native.Mathlib.Omega.{arith}
 use borrow.Author.Needs.{needs}
 use lib.ListN.{length}
 use Rattle.codec.specs.Answer.{Encoding, done}
+use Rattle.wire_packet.specs.Packet.{CHECK}
 use Rattle.wire_packet.proofs.Answers.{encode-short, encode-long, encode-no-room, encode-done}
 use Rattle.wire_packet.proofs.Emitted.{length-packet, emitted}
 use Rattle.wire_packet.proofs.encode.Statement.{statement}
@@ -20,10 +21,10 @@ packed c =
     let n = length payload in
     ap₂ {C = Encoding} (λ (k : ℕ) (s : List ℕ). record { answer = done k; buffer = s })
     (sym (length-packet payload))
-    (emitted payload out (omega arith) (n - 0) (n + 2 - n) _ _ _ (omega arith) (omega arith)
+    (emitted payload out (omega arith) (n - 0) (n + CHECK - n) _ _ _ (omega arith) (omega arith)
     (copied .copy .ensures)
     (c .before .before .before .crc16 .ensures)
-    (c .before .before .put .ensures))
+    (c .before .before .put32 .ensures))
     ∙ encode-done payload out (omega arith) (omega arith) (omega arith)
 
 pub encode-spec : {M : Type 1} → statement M
@@ -32,6 +33,7 @@ encode-spec =
     (tie.spec
     (λ c. encode-short _ _ (omega arith))
     (λ c. encode-long _ _ (omega arith) (omega arith))
+    (λ c. search needs)
     (λ c. encode-no-room _ _ (omega arith) (omega arith) (omega arith))
     (λ c. search needs)
     (λ c. search needs)

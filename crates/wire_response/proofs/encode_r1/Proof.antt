@@ -15,7 +15,7 @@ returned : tie.Need-returns
 unfolding fits write
 returned c =
     let start = c .before .before .before .before .before in
-    c .before .before .send .ensures
+    c .before .before .encode .ensures
     ∙ sym
     (encode-short (start .args .index) (field 32 ∷ []) (start .args .status ∷ []) (start .args .out .now) (ltb (start .args .index) 64) (start .args .status)
     (simp (lt-ltb (start .args .status) (2 ^ 32) (start .fits .status .fits), and-true)) (λ t. append-nil _))

@@ -17,7 +17,7 @@ returned c =
     let start = c .before .before .before .before .before in
     let a = start .args .rca in
     let b = start .args .status in
-    c .before .before .send .ensures
+    c .before .before .encode .ensures
     ∙ sym
     (encode-short 3 (field 16 ∷ (field 16 ∷ [])) (a ∷ (b ∷ [])) (start .args .out .now) true _
     (simp (lt-ltb a (2 ^ 16) (start .fits .rca .fits), lt-ltb b (2 ^ 16) (start .fits .status .fits)))

@@ -18,7 +18,7 @@ returned c =
     let start = c .before .before .before .before .before in
     let v = start .args .voltage in
     let p = start .args .pattern in
-    c .before .before .send .ensures
+    c .before .before .encode .ensures
     ∙ sym
     (encode-short 8 (reserved 20 ∷ (field 4 ∷ (field 8 ∷ []))) (v ∷ (p ∷ [])) (start .args .out .now) (ltb v 16) _
     (simp (lt-ltb p (2 ^ 8) (start .fits .pattern .fits), and-true))

@@ -8,11 +8,11 @@ pub marked-from-spec : {M : Type 1} → statement M
 marked-from-spec =
     tie.close
     (tie.spec
-    (λ c. marked-outside (c .before .args .t1) (c .before .args .group) (search needs))
+    (λ c. marked-outside (c .before .before .args .marks .now) (c .before .before .args .group) (search needs))
     (λ c. search needs)
     (λ c. search needs)
     (λ c. search needs)
-    (λ c. marked-here (c .before .before .args .t1) (c .before .before .args .group) (c .if2 .taken))
+    (λ c. marked-here (c .before .before .before .before .args .marks .now) (c .before .before .before .before .args .group) (c .if2 .taken))
     (λ c. search needs)
     (λ c κs. search needs)
-    (λ c. let d = c .before .before .before .args in marked-later (d .t1) (d .group) _ (c .before .if2 .left) (c .any-byte .ensures)))
+    (λ c. let d = c .before .before .before .before .before .args in marked-later (d .marks .now) (d .group) _ (c .before .if2 .left) (c .any-byte .ensures)))

@@ -1,7 +1,8 @@
--- Each bit is at most its weight, so the sums stay in 32 bits.
+-- The state and two bits are added below the kept ones.
+use mathlib.Core.Path.{ap, _∙_}
 use native.Mathlib.Omega.{arith}
 use borrow.Author.Needs.{needs}
-use Rattle.card_model.specs.Status.{status}
+use Rattle.card_model.specs.Status.{at, status}
 use Rattle.card_status.proofs.word.status.Statement.{statement}
 use Rattle.card_status.proofs.word.status.Tie as tie
 
@@ -11,24 +12,14 @@ status-spec =
     tie.close
     (tie.spec
     (λ c κs. search needs)
+    (λ c. search needs)
+    (λ c. omega arith)
     (λ c κs. search needs)
-    (λ c. omega (arith, c .before .bit .ensures .1, c .bit2 .ensures .1))
     (λ c κs. search needs)
-    (λ c. omega (arith, c .before .before .bit .ensures .1, c .before .bit2 .ensures .1, c .bit3 .ensures .1))
+    (λ c. omega arith)
     (λ c κs. search needs)
-    (λ c. omega (arith, c .before .before .before .bit .ensures .1, c .before .before .bit2 .ensures .1, c .before .bit3 .ensures .1, c .bit4 .ensures .1))
-    (λ c κs. search needs)
-    (λ c. omega (arith, c .before .before .before .before .bit .ensures .1, c .before .before .before .bit2 .ensures .1, c .before .before .bit3 .ensures .1, c .before .bit4 .ensures .1, c .bit5 .ensures .1))
-    (λ c κs. search needs)
-    (λ c. omega (arith, c .before .before .before .before .before .bit .ensures .1, c .before .before .before .before .bit2 .ensures .1, c .before .before .before .bit3 .ensures .1, c .before .before .bit4 .ensures .1, c .before .bit5 .ensures .1, c .bit6 .ensures .1))
-    (λ c κs. search needs)
-    (λ c. omega (arith, c .before .before .before .before .before .before .bit .ensures .1, c .before .before .before .before .before .bit2 .ensures .1, c .before .before .before .before .bit3 .ensures .1, c .before .before .before .bit4 .ensures .1, c .before .before .bit5 .ensures .1, c .before .bit6 .ensures .1, c .bit7 .ensures .1))
-    (λ c κs. search needs)
-    (λ c. omega (arith, c .before .before .before .before .before .before .before .bit .ensures .1, c .before .before .before .before .before .before .bit2 .ensures .1, c .before .before .before .before .before .bit3 .ensures .1, c .before .before .before .before .bit4 .ensures .1, c .before .before .before .bit5 .ensures .1, c .before .before .bit6 .ensures .1, c .before .bit7 .ensures .1, c .bit8 .ensures .1))
-    (λ c κs. search needs)
-    (λ c. omega (arith, c .before .before .before .before .before .before .before .before .bit .ensures .1, c .before .before .before .before .before .before .before .bit2 .ensures .1, c .before .before .before .before .before .before .bit3 .ensures .1, c .before .before .before .before .before .bit4 .ensures .1, c .before .before .before .before .bit5 .ensures .1, c .before .before .before .bit6 .ensures .1, c .before .before .bit7 .ensures .1, c .before .bit8 .ensures .1, c .bit9 .ensures .1))
-    (λ c κs. search needs)
-    (λ c. omega (arith, c .before .before .before .before .before .before .before .before .before .bit .ensures .1, c .before .before .before .before .before .before .before .before .bit2 .ensures .1, c .before .before .before .before .before .before .before .bit3 .ensures .1, c .before .before .before .before .before .before .bit4 .ensures .1, c .before .before .before .before .before .bit5 .ensures .1, c .before .before .before .before .bit6 .ensures .1, c .before .before .before .bit7 .ensures .1, c .before .before .bit8 .ensures .1, c .before .bit9 .ensures .1, c .state-bits .ensures .1))
-    (λ c κs. search needs)
-    (λ c. omega (arith, c .before .before .before .before .before .before .before .before .before .before .bit .ensures .1, c .before .before .before .before .before .before .before .before .before .bit2 .ensures .1, c .before .before .before .before .before .before .before .before .bit3 .ensures .1, c .before .before .before .before .before .before .before .bit4 .ensures .1, c .before .before .before .before .before .before .bit5 .ensures .1, c .before .before .before .before .before .bit6 .ensures .1, c .before .before .before .before .bit7 .ensures .1, c .before .before .before .bit8 .ensures .1, c .before .before .bit9 .ensures .1, c .before .state-bits .ensures .1, c .bit10 .ensures .1))
-    (λ c. omega (arith, c .before .before .before .before .before .before .before .before .before .before .bit .ensures .0, c .before .before .before .before .before .before .before .before .before .bit2 .ensures .0, c .before .before .before .before .before .before .before .before .bit3 .ensures .0, c .before .before .before .before .before .before .before .bit4 .ensures .0, c .before .before .before .before .before .before .bit5 .ensures .0, c .before .before .before .before .before .bit6 .ensures .0, c .before .before .before .before .bit7 .ensures .0, c .before .before .before .bit8 .ensures .0, c .before .before .bit9 .ensures .0, c .before .state-bits .ensures .0, c .bit10 .ensures .0)))
+    (λ c. omega arith)
+    (λ c.
+    let kept = c .before .before .before .kept-bits in
+    let ready = c .before .bit .ensures .0 ∙ ap (at 8) (c .before .before .ready-for .ensures) in
+    omega (arith, kept .ensures .0, ready, c .bit2 .ensures .0)))

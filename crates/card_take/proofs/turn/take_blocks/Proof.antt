@@ -1,93 +1,103 @@
--- Held, past the end, across a boundary, or the block.
-use mathlib.Core.Path.{_≡_, refl, ap}
-use Prim.Native.Nat.{ℕ, _+_, _-_, _≤_}
+-- Silent, held, or the block.
+use mathlib.Core.Path.{_≡_, refl, sym, ap, _∙_}
+use mathlib.Core.Bool.{Bool, false}
+use Prim.Native.Nat.{ℕ, _+_, _-_, _*_, _≤_}
 use native.Mathlib.Omega.{arith}
 use borrow.Author.Needs.{needs}
-use borrow.Author.Tests.{le-leb, lt-leb, lt-ltb, le-ltb}
+use borrow.Author.Tests.{leb-false, ltb-false}
 use borrow.Rule.Slice.PartMut.{mid-len}
 use lib.ListN.{length, take, drop}
-use Rattle.card_model.specs.Data.{takeFrom}
-use Rattle.card_open.proofs.Turns.{silent, held-with}
-use Rattle.card_take.proofs.Sending.{block-sent, sent-same}
-use Rattle.card_take.proofs.Takes.{inside}
+use Rattle.card_model.specs.declared.answer.Answer.the-variants.{Silence}
+use Rattle.card_model.specs.Settings.{BLOCK}
+use Rattle.card_model.specs.Checks.{outside, crossing}
+use Rattle.card_model.specs.Record.{withState}
+use Rattle.card_model.specs.Data.{takeSource, holdRead, readBlock}
+use Rattle.card_call.specs.Seen.{turned}
+use Rattle.card_call.proofs.Turns.{after, silent}
+use Rattle.card_take.proofs.Sending.{block-sent}
+use Rattle.card_take.proofs.Takes.{inside, bitOf, holds, in-range, in-block}
 use Rattle.card_take.proofs.turn.take_blocks.Statement.{statement}
 use Rattle.card_take.proofs.turn.take_blocks.Tie as tie
 
--- the block that is asked for lies in memory
-within : (c : tie.After-behind) → let start = c .before .before .before .before .before .before .before .before .before in
-    start .args .address + start .args .card .core .length ≤ length (start .args .memory .now)
-within c =
-    let start = c .before .before .before .before .before .before .before .before .before in
-    omega (
-      arith,
-      inside (start .args .address) (start .args .card .core .length) (start .args .card .core .settings .blocks)
-          (c .before .before .before .if2 .left)
-          (c .before .if3 .left),
-      start .pre .size .whole,
-    )
+quietly : tie.Need-returns
+unfolding takeSource
+quietly c =
+    let card = c .before .before .before .args .card in
+    rw (c .if1 .taken) (silent (after card (card .core) Silence) card (card .core) (card .core) refl refl _ _ refl)
 
-sent : tie.Need-returns-4
-unfolding takeFrom
+abbrev start : tie.After-hold-bit → tie.Start
+start c = c .before .before .before .before .before
+
+-- the two tests, by the record's own numbers
+abbrev past : tie.After-hold-bit → Bool
+past c = let args = start c .args in outside (args .card .core .settings .blocks * BLOCK) (args .address)
+
+abbrev across : tie.After-hold-bit → Bool
+across c = let args = start c .args in crossing (args .card .core .length) (args .address)
+
+bit : (c : tie.After-hold-bit) → c .hold-bit .result ≡ bitOf (past c) (across c)
+bit c = c .hold-bit .ensures ∙ ap (λ (top : ℕ). bitOf (outside top (start c .args .address)) (across c)) (c .before .capacity .ensures)
+
+held : tie.Need-returns-2
+unfolding takeSource
+held c =
+    let b = c .before .before in
+    let args = start b .args in
+    let core = args .card .core in
+    rw (b .before .before .if1 .left)
+    (c .hold .ensures (args .memory .now) (args .out .now)
+    ∙ ap (turned (args .card) (args .memory .now) (args .out .now))
+    (holds (past b) (across b) (b .hold-bit .result) (holdRead core (args .multiple) (args .address)) (readBlock core (args .memory .now) (args .multiple) (args .address)) (bit b) (c .before .if2 .taken)))
+
+low : (c : tie.Else2) → past (c .before) ≡ false
+low c = in-range (past (c .before)) (across (c .before)) _ (bit (c .before)) (c .if2 .left)
+
+whole : (c : tie.Else2) → across (c .before) ≡ false
+whole c = in-block (past (c .before)) (across (c .before)) _ (bit (c .before)) (c .if2 .left)
+
+-- the block that is asked for lies in memory
+within : (c : tie.Else2) → let args = start (c .before) .args in args .address + args .card .core .length ≤ args .card .core .settings .blocks * BLOCK
+within c =
+    let args = start (c .before) .args in
+    inside (args .address) (args .card .core .length) (args .card .core .settings .blocks) (leb-false _ _ (low c)) (ltb-false _ _ (whole c))
+
+sent : tie.Need-returns-3
+unfolding takeSource
 sent c =
     let behind = c .before .before .before .before .before in
     let test = behind .before in
-    let start = test .before .before .before .before .before .before .before .before in
-    let a = start .args .address in
-    let n = start .args .card .core .length in
+    let s0 = start (test .before) in
+    let args = s0 .args in
+    let a = args .address in
+    let n = args .card .core .length in
+    let s = args .memory .now in
     let send = c .before .before .send in
     let k : a + n - a ≡ n = omega arith in
-    let s = start .args .memory .now in
-    let l = mid-len a _ s (within behind) in
-    rw (test .before .before .before .before .if1 .left, lt-leb _ _ (test .before .before .if2 .left), le-ltb _ _ (test .if3 .left))
-    (sent-same (send .result) _ _ _ _ _ _ _ _
-    (block-sent (take (a + n - a) (drop a s)) (send .result) (start .args .card) _ _ _ _ (omega (arith, l, start .pre .low)) (omega (arith, l, start .pre .high)) (start .pre .room) (send .ensures s))
-    (behind .behind .ensures) (ap (λ (j : ℕ). take j (drop a s)) k))
+    let l : length (take n (drop a s)) ≡ n =
+    ap (λ (j : ℕ). length (take j (drop a s))) (sym k) ∙ mid-len a (a + n) s (omega (arith, within test, s0 .pre .size .whole)) ∙ k in
+    rw (test .before .before .before .if1 .left, low test, whole test)
+    (block-sent (send .result) (args .card) _ s _ _ refl (s0 .pre .room) (take n (drop a s)) (omega (arith, l, s0 .pre .low)) (omega (arith, l, s0 .pre .high)) _ _
+    (ap (withState (args .card .core)) (behind .behind .ensures))
+    (ap (λ (j : ℕ). take j (drop a s)) k)
+    (send .ensures s))
 
 pub take-blocks-spec : {M : Type 1} → statement M
-unfolding takeFrom
 take-blocks-spec =
     tie.close
     (tie.spec
-    (λ c κs. search needs)
-    (λ c. rw (c .before .if1 .taken) (silent _ _ _ _ _ _ refl (c .answered .ensures)))
-    (λ c. search needs)
+    quietly
     (λ c κs. search needs)
     (λ c κs. search needs)
     (λ c κs. search needs)
-    (λ c κs. search needs)
-    (λ c.
-    let held = c .before in
-    let test = held .before .before .before in
-    rw (test .before .before .if1 .left, le-leb _ _ (test .if2 .taken))
-    (silent _ _ _ _ _ _
-    (held-with (test .before .before .before .before .before .before .args .card .core) _ _ _ _ _
-    (held .hold .ensures)
-    (held .before .raise .ensures)
-    (held .before .before .out-of-range .ensures))
-    (c .answered2 .ensures)))
-    (λ c. search needs)
-    (λ c. search needs)
-    (λ c κs. search needs)
-    (λ c κs. search needs)
-    (λ c κs. search needs)
-    (λ c κs. search needs)
-    (λ c.
-    let held = c .before in
-    let test = held .before .before .before in
-    rw (test .before .before .before .before .if1 .left, lt-leb _ _ (test .before .before .if2 .left), lt-ltb _ _ (test .if3 .taken))
-    (silent _ _ _ _ _ _
-    (held-with (test .before .before .before .before .before .before .before .before .args .card .core) _ _ _ _ _
-    (held .hold2 .ensures)
-    (held .before .raise2 .ensures)
-    (held .before .before .address-error .ensures))
-    (c .answered3 .ensures)))
+    held
     (λ c. search needs)
     (λ c. search needs)
     (λ c. search needs)
+    (λ c. let w = within c in let s = start (c .before) .pre .size in search needs)
     (λ c κs. search needs)
     (λ c. search needs)
     (λ c. search needs)
-    (λ c. within c)
+    (λ c. omega (arith, within (c .before), start (c .before .before) .pre .size .whole))
     (λ c κs. search needs)
     (λ c. search needs)
     sent)

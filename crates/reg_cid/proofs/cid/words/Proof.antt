@@ -3,6 +3,7 @@ use mathlib.Core.List.{append-assoc, append-nil}
 use borrow.Author.Needs.{needs}
 use lib.Dec.{lit≤}
 use Rattle.codec.specs.Layout.{write}
+use Rattle.codec.proofs.Masks.{join-bits}
 use Rattle.reg_cid.proofs.Words.{bits-none}
 use Rattle.reg_cid.proofs.cid.words.Statement.{statement}
 use Rattle.reg_cid.proofs.cid.words.Tie as tie
@@ -28,13 +29,13 @@ words-spec =
     let b = c .before .before in
     let a = b .before .before .before .before .before in
     simp (
-      c .join7 .ensures 44 (lit≤ tt),
-      b .join6 .ensures 40 (lit≤ tt),
-      b .before .join5 .ensures 8 (lit≤ tt),
-      b .before .before .before .join4 .ensures 0 (lit≤ tt),
-      a .join3 .ensures 24 (lit≤ tt),
-      a .before .join2 .ensures 8 (lit≤ tt),
-      a .before .before .before .join .ensures 0 (lit≤ tt),
+      join-bits 44 _ _ _ _ _ (c .join7 .ensures) (lit≤ tt),
+      join-bits 40 _ _ _ _ _ (b .join6 .ensures) (lit≤ tt),
+      join-bits 8 _ _ _ _ _ (b .before .join5 .ensures) (lit≤ tt),
+      join-bits 0 _ _ _ _ _ (b .before .before .before .join4 .ensures) (lit≤ tt),
+      join-bits 24 _ _ _ _ _ (a .join3 .ensures) (lit≤ tt),
+      join-bits 8 _ _ _ _ _ (a .before .join2 .ensures) (lit≤ tt),
+      join-bits 0 _ _ _ _ _ (a .before .before .before .join .ensures) (lit≤ tt),
       bits-none,
       append-assoc,
       append-nil,

@@ -3,6 +3,7 @@ use mathlib.Core.List.{append-assoc, append-nil}
 use borrow.Author.Needs.{needs}
 use lib.Dec.{lit≤}
 use Rattle.codec.specs.Layout.{write}
+use Rattle.codec.proofs.Masks.{join-bits}
 use Rattle.reg_cid.proofs.Words.{bits-none}
 use Rattle.reg_scr_ocr.proofs.ocr.word.Statement.{statement}
 use Rattle.reg_scr_ocr.proofs.ocr.word.Tie as tie
@@ -25,12 +26,12 @@ word-spec =
     let j2 = j3 .before in
     let j = j2 .before .before in
     simp (
-      c .join5 .ensures 17 (lit≤ tt),
-      c .before .join4 .ensures 8 (lit≤ tt),
-      j3 .join3 .ensures 2 (lit≤ tt),
-      j2 .join2 .ensures 1 (lit≤ tt),
+      join-bits 17 _ _ _ _ _ (c .join5 .ensures) (lit≤ tt),
+      join-bits 8 _ _ _ _ _ (c .before .join4 .ensures) (lit≤ tt),
+      join-bits 2 _ _ _ _ _ (j3 .join3 .ensures) (lit≤ tt),
+      join-bits 1 _ _ _ _ _ (j2 .join2 .ensures) (lit≤ tt),
       j2 .before .flag2 .ensures,
-      j .join .ensures 0 (lit≤ tt),
+      join-bits 0 _ _ _ _ _ (j .join .ensures) (lit≤ tt),
       j .before .flag .ensures,
       bits-none,
       append-assoc,

@@ -13,4 +13,4 @@ begins-spec =
     (λ c. search needs)
     (λ c. search needs)
     (λ c κs. search needs)
-    (λ c. let start = c .before .before .before .before .before in front-equal (start .args .line .now) (start .args .word .now) _ (c .same .ensures)))
+    (λ c. let start = c .before .before .before .before .before in front-equal (start .args .line .now) (start .args .word .now) _ (c .equals .ensures)))

@@ -6,10 +6,12 @@ use Prim.Native.Nat.{ℕ, _/_, _%_, _^_}
 use native.Mathlib.Nat.{mod-mod}
 use native.Mathlib.Omega.{arith}
 use borrow.Author.Needs.{needs}
+use lib.Bits.{and-mask, mask-lt}
 use lib.Dec.{eqb}
 use lib.Pow.{shr-shr}
 use Rattle.crc.specs.Bits.{bit, bits, number}
 use Rattle.crc.proofs.Bits.{number-bits, bits-cong}
+use Rattle.codec.proofs.Masks.{join-bits}
 use Rattle.wire_response.specs.Status.{shortStatus}
 use Rattle.wire_response.proofs.status.short_status.Statement.{statement}
 use Rattle.wire_response.proofs.status.short_status.Tie as tie
@@ -37,8 +39,10 @@ short-status-spec =
     (λ c κs. search needs)
     (λ c κs. search needs)
     (λ c κs. search needs)
-    (λ c. search needs)
+    (λ c. record { fits = mask-lt (c .join322 .result) 16 })
     (λ c.
     let at = c .before .before in
-    short (at .before .before .args .status) (at .before .field .result) (at .field2 .result) (c .before .join .result) (c .join2 .result)
-    (at .before .field .ensures) (at .field2 .ensures) (c .before .join .ensures 2 (omega arith)) (c .join2 .ensures 3 (omega arith))))
+    and-mask (c .join322 .result) 16
+    ∙ short (at .before .before .args .status) (at .before .field32 .result) (at .field322 .result) (c .before .join32 .result) (c .join322 .result)
+    (at .before .field32 .ensures) (at .field322 .ensures)
+    (join-bits 2 _ _ _ _ _ (c .before .join32 .ensures) (omega arith)) (join-bits 3 _ _ _ _ _ (c .join322 .ensures) (omega arith))))

@@ -1,0 +1,123 @@
+-- No place for it, or stored.
+use mathlib.Core.Path.{_≡_, refl, sym, ap, ap₂, _∙_}
+use mathlib.Core.Bool.{Bool, false}
+use mathlib.Core.List.{[]}
+use Prim.Native.Nat.{ℕ, _+_, _*_, _<_, _≤_}
+use native.Mathlib.Omega.{arith}
+use borrow.Author.Needs.{needs}
+use borrow.Author.Tests.{leb-false}
+use lib.ListN.{length}
+use Rattle.card_model.specs.declared.card.Core.{Core}
+use Rattle.card_model.specs.declared.done.Flag.the-variants.{Keep}
+use Rattle.card_model.specs.Settings.{BLOCK, capacity}
+use Rattle.card_model.specs.Record.{withState}
+use Rattle.card_model.specs.Protect.{whole, guarded}
+use Rattle.card_model.specs.Checks.{outside}
+use Rattle.card_model.specs.Execute.{raise}
+use Rattle.card_model.specs.Frame.{Turn, quiet}
+use Rattle.card_model.specs.Data.{holdWrite}
+use Rattle.card_call.specs.Seen.{turned}
+use Rattle.card_call.proofs.Turns as Turns
+use Rattle.card_block_in.proofs.Blocks as Blocks
+use Rattle.card_block_in.proofs.turn.place.Statement.{statement}
+use Rattle.card_block_in.proofs.turn.place.Tie as tie
+
+-- ---- what the tests told
+
+abbrev start : tie.After-hold-bit → tie.Start
+start h = h .before .before .before .before .before .before .before .before
+
+abbrev past : Core → ℕ → Bool
+past c address = outside (capacity (c .settings)) address
+
+abbrev kept : Core → ℕ → Bool
+kept c address = guarded (whole (c .settings)) (c .marks) address
+
+bit : (h : tie.After-hold-bit) → let args = start h .args in
+    h .hold-bit .result ≡ Blocks.bitOf (past (args .card .core) (args .t .address)) (kept (args .card .core) (args .t .address))
+bit h =
+    let args = start h .args in
+    h .hold-bit .ensures
+    ∙ ap₂ (λ (top : ℕ) (wp : Bool). Blocks.bitOf (outside top (args .t .address)) wp) (h .before .capacity .ensures)
+    (h .before .before .guarded .ensures
+    ∙ ap (λ (b : Bool). guarded b (args .card .core .marks) (args .t .address)) (h .before .before .before .before .before .whole .ensures))
+
+inside : (e : tie.Else1) → let args = start (e .before) .args in past (args .card .core) (args .t .address) ≡ false
+inside e =
+    let args = start (e .before) .args in
+    Blocks.inside (past (args .card .core) (args .t .address)) (kept (args .card .core) (args .t .address)) (sym (bit (e .before)) ∙ e .if1 .left)
+
+below : (e : tie.Else1) → let args = start (e .before) .args in args .t .address < args .card .core .settings .blocks * BLOCK
+below e = leb-false _ _ (inside e)
+
+-- ---- the answers
+
+kept-out : tie.Need-returns
+kept-out c =
+    let raised = c .before .before .before in
+    let test = raised .before in
+    let h = test .before in
+    let args = start h .args in
+    let core = args .card .core in
+    let held : ℕ → Turn = λ n. quiet (holdWrite (raise core n) (args .t .multiple) (args .t .address)) Keep in
+    Turns.silent (c .answered .result) _ _ _
+    (c .before .with-state .ensures ∙ ap₂ withState (raised .raise .ensures) (c .before .before .hold .ensures))
+    refl _ _ (c .answered .ensures)
+    ∙ ap (turned (args .card) (args .memory .now) [])
+    (ap held (bit h) ∙ Blocks.held-by held _ (past core (args .t .address)) (kept core (args .t .address)) (λ z. test .if1 .taken (bit h ∙ z)))
+
+stored : tie.Need-returns-2
+stored c =
+    let apply = c .before .before .before .before .before .before .before .before in
+    let test = apply .before .before .before in
+    let h = test .before in
+    let begin = start h in
+    let args = begin .args in
+    let core = args .card .core in
+    let a = args .t .address in
+    let reach : a + length (args .payload .now) ≤ length (args .memory .now) =
+    omega (arith, begin .pre .1, below test, begin .pre .0 .aligned, begin .pre .0 .size .whole) in
+    rw (inside test, Blocks.unkept (past core a) (kept core a) (sym (bit h) ∙ test .if1 .left))
+    (Turns.accepted (c .answered2 .result) _ _ _
+    (c .before .with-state2 .ensures ∙ ap₂ withState (c .before .before .before .with-written .ensures) (c .before .before .accepted .ensures))
+    refl _ _ _ _ _
+    (Blocks.stored-in (h .before .before .before .before .before .whole .result) a (args .payload .now) (args .memory .now) (core .marks) _ _ reach (apply .apply .ensures))
+    (c .answered2 .ensures))
+
+-- the array of the marks has its length
+
+lent : tie.Need-slice-aggregate-guarded
+lent c =
+    let core = c .before .before .before .before .before .good .0 .1 .1 .0 in
+    let marks = core .1 .1 .1 .1 .1 .1 .1 .1 .1 .0 in
+    search needs
+
+lent-on : tie.Need-slice-aggregate-apply
+lent-on c =
+    let core = c .before .before .before .before .before .before .before .before .before .before .before .good .0 .1 .1 .0 in
+    let marks = core .1 .1 .1 .1 .1 .1 .1 .1 .1 .0 in
+    search needs
+
+pub place-spec : {M : Type 1} → statement M
+place-spec =
+    tie.close
+    (tie.spec
+    (λ c κs. search needs)
+    lent
+    (λ c κs. search needs)
+    (λ c κs. search needs)
+    (λ c κs. search needs)
+    (λ c κs. search needs)
+    (λ c κs. search needs)
+    (λ c κs. search needs)
+    (λ c κs. search needs)
+    kept-out
+    lent-on
+    (λ c κs. search needs)
+    (λ c. let n = start (c .before .before .before .before .before .before .before .before) .pre .0 .count in search needs)
+    (λ c κs. search needs)
+    (λ c κs. omega (arith, below (c .before .before .before .before .before .before .before .before), start (c .before .before .before .before .before .before .before .before .before) .pre .0 .size .blocks))
+    (λ c κs. search needs)
+    (λ c κs. search needs)
+    (λ c. search needs)
+    stored)

@@ -1,0 +1,58 @@
+-- What a caller sees of a turn that sends no bytes: silence, a data answer, the end of busy.
+use mathlib.Core.Path.{_≡_, sym, ap, _∙_}
+use mathlib.Core.List.{List}
+use Prim.Native.Nat.{ℕ}
+use Rattle.card_model.specs.declared.answer.Answer.{Answer}
+use Rattle.card_model.specs.declared.answer.Answer.the-variants.{Silence, Accepted, Rejected, Over}
+use Rattle.card_model.specs.declared.state.Open.{Open}
+use Rattle.card_model.specs.declared.card.Core.{Core}
+use Rattle.card_model.specs.declared.card.Card.{Card}
+use Rattle.card_model.specs.declared.done.Effect.the-variants.{Store}
+use Rattle.card_model.specs.declared.done.Flag.the-variants.{Keep}
+use Rattle.card_model.specs.Record.{withMarks}
+use Rattle.card_model.specs.Effects.{over, affected}
+use Rattle.card_model.specs.Frame.{Turn, token, finished, quiet}
+use Rattle.card_model.specs.Data.{said, ACCEPTED, REJECTED}
+use Rattle.card_model.specs.Step.{wire, replyOf, flagged, show}
+use Rattle.card_call.specs.declared.Stepped.{Stepped}
+use Rattle.card_call.specs.Seen.{Seen, returned, turned}
+
+-- what `answered` returns
+abbrev pub after : Card → Core → Answer → Stepped
+after card core a = record { answer = a; card = record { core = core; line = card .line } }
+
+-- a core that keeps the marks of the card is itself with those marks
+pub same-marks : (card : Card) (e : Core) → e .marks ≡ card .core .marks → e ≡ withMarks e (card .core .marks)
+same-marks card e h = ap (withMarks e) h
+
+module _ (r : Stepped) (card : Card) (d e : Core) (same-core : d ≡ e) (marks : e .marks ≡ card .core .marks) where
+  seen-as : (a : Answer) (memory out : List ℕ) → r ≡ after card d a → returned r memory out ≡ returned (after card (withMarks e (card .core .marks)) a) memory out
+  seen-as a memory out p =
+      ap (λ (x : Stepped). returned x memory out) p
+      ∙ ap (λ (x : Core). returned (after card x a) memory out) (same-core ∙ same-marks card e marks)
+
+  module _ (memory out : List ℕ) where
+    pub silent : r ≡ after card d Silence → returned r memory out ≡ turned card memory out (quiet e Keep)
+    unfolding show wire replyOf flagged affected
+    silent p = seen-as Silence memory out p
+
+    pub rejected : r ≡ after card d Rejected → returned r memory out ≡ turned card memory out (said e (token REJECTED))
+    unfolding show wire replyOf flagged affected
+    rejected p = seen-as Rejected memory out p
+
+    pub ended : r ≡ after card d Over → returned r memory out ≡ turned card memory out (said e finished)
+    unfolding show wire replyOf flagged affected
+    ended p = seen-as Over memory out p
+
+    -- memory is what the store left
+    pub accepted : (a : ℕ) (s before : List ℕ) → memory ≡ over before a s → r ≡ after card d Accepted
+        → returned r memory out
+        ≡ turned card before out (record { core = e; flag = Keep; message = token ACCEPTED; effect = Store a; payload = s })
+    unfolding show wire replyOf flagged affected
+    accepted a s before m p =
+        seen-as Accepted memory out p ∙ ap (λ (x : List ℕ). returned (after card (withMarks e (card .core .marks)) Accepted) x out) m
+
+-- a turn that goes by what is open: as the code found it, p, the model's o, and the case q
+pub by-open : (card : Card) (memory out : List ℕ) (f : Open → Turn) {v : Seen} {p o q : Open} → p ≡ o → p ≡ q
+    → v ≡ turned card memory out (f q) → v ≡ turned card memory out (f o)
+by-open card memory out f h k e = e ∙ ap (λ (x : Open). turned card memory out (f x)) (sym k ∙ h)

@@ -1,0 +1,2 @@
+-- Which effects stay inside the memory that is lent.
+pub mod Apply

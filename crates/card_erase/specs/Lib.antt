@@ -1,2 +1,0 @@
--- Parts of commands.
-pub mod Erased

@@ -1,0 +1,16 @@
+-- The record and the line.
+use mathlib.Core.Path.{ap₂}
+use borrow.Author.Needs.{needs}
+use Rattle.card_model.specs.declared.card.Core.{Core}
+use Rattle.card_model.specs.declared.card.Line.{Line}
+use Rattle.card_model.specs.declared.card.Card.{Card}
+use Rattle.card_finish.proofs.kept.Statement.{statement}
+use Rattle.card_finish.proofs.kept.Tie as tie
+
+pub kept-spec : {M : Type 1} → statement M
+kept-spec =
+    tie.close
+    (tie.spec
+    (λ c κs. search needs)
+    (λ c κs. search needs)
+    (λ c. ap₂ {C = Card} (λ (x : Core) (l : Line). record { core = x; line = l }) (c .before .with-marks .ensures) (c .flagged .ensures)))

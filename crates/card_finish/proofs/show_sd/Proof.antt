@@ -1,0 +1,38 @@
+-- By the verdict.
+use mathlib.Core.Path.{sym, ap, _∙_}
+use mathlib.Core.Bool.{false}
+use Rattle.card_model.specs.declared.card.Core.{Core}
+use Rattle.card_model.specs.declared.done.Flag.the-variants.{Keep}
+use Rattle.card_model.specs.Record.{withApp}
+use Rattle.card_model.specs.Frame.{quiet}
+use Rattle.card_finish.proofs.Finished.{not-allowed, other-card, ran}
+use borrow.Author.Needs.{needs}
+use Rattle.card_finish.proofs.show_sd.Statement.{statement}
+use Rattle.card_finish.proofs.show_sd.Tie as tie
+
+pub show-sd-spec : {M : Type 1} → statement M
+show-sd-spec =
+    tie.close
+    (tie.spec
+    (λ c. search needs)
+    (λ c κs. search needs)
+    (λ c κs. search needs)
+    (λ c κs. search needs)
+    (λ c. search needs)
+    (λ c κs. search needs)
+    (λ c κs. search needs)
+    (λ c. search needs)
+    (λ c κs. search needs)
+    (λ c κs. search needs)
+    (λ c.
+    let r = c .before .before in
+    c .quiet .ensures
+    ∙ ap (λ (x : Core). quiet x Keep) (c .before .with-app .ensures ∙ ap (λ (x : Core). withApp x false) (r .raise .ensures))
+    ∙ sym (not-allowed _ _ (r .before .enum-told .given .1)))
+    (λ c.
+    c .quiet2 .ensures
+    ∙ ap (λ (x : Core). quiet x Keep) (c .before .with-app2 .ensures)
+    ∙ sym (other-card _ _ (c .before .before .enum-told2 .given .1)))
+    (λ c.
+    c .finish .ensures
+    ∙ ran _ _ _ (c .before .number .ensures .0) (c .before .before .before .before .enum-told3 .given .1)))

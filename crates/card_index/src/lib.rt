@@ -1,0 +1,113 @@
+// The command that the card takes an index for: the first row that fits.
+ghost use mathlib.Core.Path.{_≡_};
+ghost use Prim.Native.Nat.{_/_, _^_};
+ghost use lib.Dec.{eqb};
+ghost use Rattle.card_model.specs.Table.{commands, isApplication, takes, fits, find, commandOf};
+use card_model::card::Bus;
+use card_model::command::Command;
+use card_model::command::Kind;
+use card_model::command::Rca;
+use card_table::row;
+
+fn is_application(kind: Kind) -> bool
+    ensures { λ r. ⌜ r ≡ isApplication kind ⌝ }
+{
+    match kind {
+        Kind::Plain => false,
+        Kind::AppCmd => false,
+        Kind::Application => true,
+    }
+}
+
+fn takes(rca: Rca, own: bool) -> bool
+    ensures { λ r. ⌜ r ≡ takes rca own ⌝ }
+{
+    match rca {
+        Rca::Unused => true,
+        Rca::Addressed => true,
+        Rca::Own => own,
+        Rca::Other => !own,
+    }
+}
+
+fn fits(command: Command, application: bool, index: u8, own: bool) -> bool
+    ensures { λ r. ⌜ r ≡ fits application index own command ⌝ }
+{
+    let found = row(command);
+    let kind = found.kind;
+    let rca = found.rca;
+    if found.index != index {
+        return false;
+    }
+    if is_application(kind) == application {
+        return takes(rca, own);
+    }
+    false
+}
+
+const COMMANDS: usize = 29;
+
+// The first command with the index, or another.
+fn find(application: bool, index: u8, own: bool, other: Command) -> Command
+    ensures { λ r. ⌜ r ≡ find commands application index own other ⌝ }
+{
+    let all = [
+        Command::GoIdleState,
+        Command::AllSendCid,
+        Command::SendRelativeAddr,
+        Command::SelectCard,
+        Command::DeselectCard,
+        Command::SendIfCond,
+        Command::SendCsd,
+        Command::SendCid,
+        Command::StopTransmission,
+        Command::SendStatus,
+        Command::AppCmd,
+        Command::GoInactiveState,
+        Command::SetBlocklen,
+        Command::ReadSingleBlock,
+        Command::ReadMultipleBlock,
+        Command::SendWriteProt,
+        Command::WriteBlock,
+        Command::WriteMultipleBlock,
+        Command::SetWriteProt,
+        Command::ClrWriteProt,
+        Command::Erase,
+        Command::EraseWrBlkStart,
+        Command::EraseWrBlkEnd,
+        Command::SdStatus,
+        Command::SendNumWrBlocks,
+        Command::SendScr,
+        Command::SetWrBlkEraseCount,
+        Command::SetClrCardDetect,
+        Command::SdSendOpCond,
+    ];
+    let mut i = 0;
+    while i < COMMANDS {
+        let command = all[i];
+        if fits(command, application, index, own) {
+            return command;
+        }
+        i += 1;
+    }
+    other
+}
+
+// The argument's RCA is the card's.
+pub fn own(rca: u16, argument: u32) -> bool
+    ensures { λ r. ⌜ r ≡ eqb (argument / 2 ^ 16) rca ⌝ }
+{
+    (argument >> 16) == (rca as u32)
+}
+
+// After 55 an index with an A row is that command, and others stay as they are.
+pub fn command_of(bus: Bus, index: u8, argument: u32) -> Command
+    ensures { λ r. ⌜ r ≡ commandOf bus index argument ⌝ }
+{
+    let mine = own(bus.rca, argument);
+    let plain = find(false, index, mine, Command::Unknown);
+    if bus.app {
+        return find(true, index, mine, plain);
+    }
+    plain
+}

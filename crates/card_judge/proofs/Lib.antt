@@ -1,0 +1,2 @@
+-- A law of the judgement.
+pub mod Judging

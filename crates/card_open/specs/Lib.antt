@@ -1,3 +1,0 @@
--- What a state has open, and what a caller sees of a turn.
-pub mod Opened
-pub mod Turned

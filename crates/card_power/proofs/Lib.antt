@@ -1,2 +1,0 @@
--- Where power up and busy over lead.
-pub mod Calls

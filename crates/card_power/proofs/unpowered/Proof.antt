@@ -1,0 +1,7 @@
+-- The start of a card of no blocks.
+use borrow.Author.Needs.{needs}
+use Rattle.card_power.proofs.unpowered.Statement.{statement}
+use Rattle.card_power.proofs.unpowered.Tie as tie
+
+pub unpowered-spec : {M : Type 1} → statement M
+unpowered-spec = tie.close (tie.spec (λ c κs. search needs) (λ c. c .start .ensures))

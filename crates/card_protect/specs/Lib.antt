@@ -1,2 +1,0 @@
--- Steps of this crate's loops.
-pub mod Sweep

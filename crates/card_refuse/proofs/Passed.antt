@@ -1,0 +1,40 @@
+-- What the rows that do not apply tell of the record and of memory.
+use mathlib.Core.Path.{_≡_, refl}
+use mathlib.Core.Bool.{Bool, true, false, not, _&&_, false≢true}
+use mathlib.Core.List.{List, [], _∷_}
+use mathlib.Core.Option.{none}
+use Prim.Native.Nat.{ℕ, zero, suc, _≤_}
+use borrow.Author.Tests.{leb-true, eqb-true, not-false}
+use lib.Dec.{eqb, leb}
+use lib.ListN.{getD}
+use Rattle.card_model.specs.declared.answer.Rows.{Rows}
+use Rattle.card_model.specs.declared.settings.Settings.{Settings}
+use Rattle.card_model.specs.declared.card.Core.{Core}
+use Rattle.card_model.specs.Settings.{LEAST, MOST, capacity, allowed}
+use Rattle.card_model.specs.Soundness.{unsound}
+use Rattle.card_model.specs.Step.{applies, refusal}
+use Rattle.card_model.proofs.Choices.{spared}
+use Rattle.card_model.proofs.Facts.{facts-sound}
+use Rattle.card_refuse.specs.Rows.{Sized}
+
+-- the row at each place of the list
+pub passed : (ns : List ℕ) (r : Rows) → refusal ns r ≡ none → (i : ℕ) → applies r (getD ns i 0) ≡ false
+unfolding applies
+passed [] r e i = refl
+passed (n ∷ ns) r e zero = spared n ns r e .0
+passed (n ∷ ns) r e (suc i) = passed ns r (spared n ns r e .1) i
+
+second : (a b c : Bool) → (a && (b && c)) ≡ true → b ≡ true
+second true true c e = refl
+second true false c e = e
+second false b c e = absurd (false≢true e)
+
+pub few-blocks : (s : Settings) → allowed s ≡ true → s .blocks ≤ MOST
+unfolding allowed
+few-blocks s e = leb-true (s .blocks) MOST (second (leb LEAST (s .blocks)) (leb (s .blocks) MOST) _ e)
+
+pub sized : (c : Core) (memory : ℕ) → unsound c ≡ false → not (eqb memory (capacity (c .settings))) ≡ false → Sized c memory
+sized c memory sound full = record {
+  blocks = few-blocks (c .settings) (facts-sound c sound .0 .fixed .settings);
+  whole = eqb-true memory (capacity (c .settings)) (not-false _ full);
+}

@@ -1,0 +1,2 @@
+-- What a call is handed, held against the rows of refused calls.
+pub mod Rows

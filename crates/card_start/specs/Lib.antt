@@ -1,0 +1,2 @@
+-- Start checks by number.
+pub mod Verdict

@@ -1,2 +1,0 @@
--- Laws of answers.
-pub mod Answers

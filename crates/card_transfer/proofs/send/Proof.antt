@@ -1,0 +1,16 @@
+-- A transfer is opened.
+use mathlib.Core.Path.{ap, _∙_}
+use Rattle.card_model.specs.declared.card.Core.{Core}
+use Rattle.card_model.specs.declared.done.Response.the-variants.{R1}
+use Rattle.card_model.specs.Execute.{ran}
+use borrow.Author.Needs.{needs}
+use Rattle.card_transfer.proofs.send.Statement.{statement}
+use Rattle.card_transfer.proofs.send.Tie as tie
+
+pub send-spec : {M : Type 1} → statement M
+send-spec =
+    tie.close
+    (tie.spec
+    (λ c κs. search needs)
+    (λ c κs. search needs)
+    (λ c. c .ran .ensures ∙ ap (λ (x : Core). ran x R1) (c .before .opening .ensures)))

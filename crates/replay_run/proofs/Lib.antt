@@ -1,0 +1,2 @@
+-- The card of the bench.
+pub mod Powered

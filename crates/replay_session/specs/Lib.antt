@@ -1,0 +1,3 @@
+-- A session with the card.
+pub mod Session
+pub mod Laws
