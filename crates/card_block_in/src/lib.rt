@@ -9,9 +9,9 @@ mod turn;
 use card_call::Stepped;
 use card_call::refused;
 use card_model::card::Card;
+use card_model::size::BLOCK;
 use card_refuse::refusal;
 use card_refuse::rows;
-use card_settings::BLOCK;
 use wire_packet::CHECK;
 
 pub fn block_in(card: Card, block: &[u8], memory: &mut [u8]) -> Stepped

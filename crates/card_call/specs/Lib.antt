@@ -1,2 +1,3 @@
 -- What a call leaves, as the model's step has it.
 pub mod Seen
+pub mod Replied

@@ -1,8 +1,12 @@
 // What a call returns: its answer and the record.
 ghost use mathlib.Core.Path.{_≡_};
+ghost use Rattle.codec.specs.Answer.{encoded};
+ghost use Rattle.card_model.specs.Step.{answer};
+ghost use Rattle.card_call.specs.Replied.{replied};
 use card_model::answer::Answer;
 use card_model::card::Card;
 use card_model::card::Core;
+use codec::Encoded;
 
 pub struct Stepped {
     pub answer: Answer,
@@ -31,5 +35,15 @@ pub fn answered(card: Card, core: Core, answer: Answer) -> Stepped
     Stepped {
         answer: answer,
         card: next,
+    }
+}
+
+// What an encoder answered: the bytes were sent, or its refusal.
+pub fn report(e: Encoded) -> Answer
+    ensures { λ r. ⌜ answer r ≡ replied (encoded e) ⌝ }
+{
+    match e {
+        Encoded::Wrote(n) => Answer::Sent(n),
+        Encoded::Refused(k) => Answer::Refused(k),
     }
 }

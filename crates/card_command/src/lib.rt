@@ -28,11 +28,9 @@ fn show(card: Card, turn: Turned, memory: &mut [u8], out: &mut [u8]) -> Stepped
         ⌜ returned r (now (memory .exit)) (now (out .exit))
         ≡ seen (show (world card (now (memory .entry))) (now (out .entry)) (turned turn)) ⌝ }
 {
-    let core = card.core;
-    let settings = core.settings;
     let line = card.line;
-    let all = whole(settings.permanent, settings.temporary);
-    let mut marks = core.marks;
+    let all = whole(card.core.settings.permanent, card.core.settings.temporary);
+    let mut marks = card.core.marks;
     let effect = turn.effect;
     apply(all, effect, &[], memory, &mut marks);
     let next = turn.core;
@@ -50,9 +48,8 @@ pub fn command_frame(card: Card, frame: &[u8], memory: &mut [u8], out: &mut [u8]
         ⌜ returned r (now (memory .exit)) (now (out .exit))
         ≡ stepped card (now (memory .entry)) (commandFrame (now (frame .entry)) (now (out .entry))) ⌝ }
 {
-    let core = card.core;
     let r = rows(
-        core,
+        card.core,
         memory.len(),
         frame.len() != FRAME,
         out.len() < ROOM,
@@ -62,5 +59,5 @@ pub fn command_frame(card: Card, frame: &[u8], memory: &mut [u8], out: &mut [u8]
     if n != 0 {
         return refused(card, n);
     }
-    show(card, receive(core, frame), memory, out)
+    show(card, receive(card.core, frame), memory, out)
 }

@@ -8,9 +8,9 @@ ghost use Rattle.card_model.specs.Settings.{BLOCK};
 ghost use Rattle.card_model.specs.Effects.{stored, over, sweptBlock, swept, affected};
 ghost use Rattle.card_effect.specs.Apply.{reaches};
 use card_model::done::Effect;
+use card_model::size::BLOCK;
 use card_protect::guarded_block;
 use card_protect::mark;
-use card_settings::BLOCK;
 
 // Zeroes bytes, unless they are to be kept.
 fn zero(keep: bool, part: &mut [u8])

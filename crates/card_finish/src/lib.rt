@@ -72,8 +72,7 @@ fn cleared(response: Response, c: Core) -> Core
 pub fn finish(command: Command, state: u8, done: Done) -> Turned
     ensures { λ r. ⌜ turned r ≡ finish command state done ⌝ }
 {
-    let core = done.core;
-    let kept = core.kept;
+    let kept = done.core.kept;
     let response = done.response;
     let effect = done.effect;
     let message = Message {
@@ -82,7 +81,7 @@ pub fn finish(command: Command, state: u8, done: Done) -> Turned
         word: status(kept, state, card_table::shows_app(command)),
     };
     Turned {
-        core: with_app(cleared(response, core), card_table::sets_app(command)),
+        core: with_app(cleared(response, done.core), card_table::sets_app(command)),
         flag: Flag::Clear,
         message: message,
         effect: effect,

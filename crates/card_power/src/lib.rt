@@ -13,13 +13,13 @@ use card_model::card::Card;
 use card_model::card::Core;
 use card_model::card::Line;
 use card_model::settings::Settings;
+use card_model::size::BLOCK;
 use card_model::state::Open;
 use card_model::state::State;
 use card_record::erase::no_erase;
 use card_record::with_state;
 use card_refuse::refusal;
 use card_refuse::rows;
-use card_settings::BLOCK;
 use card_settings::allowed;
 use card_settings::capacity;
 use card_status::no_bits;
@@ -107,19 +107,24 @@ pub fn power_up(card: Card, settings: Settings, memory: &[u8]) -> Stepped
 pub fn busy_over(card: Card, memory: &[u8]) -> Stepped
     ensures { λ r. ⌜ returned r (now (memory .entry)) [] ≡ stepped card (now (memory .entry)) busyOver ⌝ }
 {
-    let c = card.core;
-    let bus = c.bus;
+    let bus = card.core.bus;
     let state = bus.state;
     let open = card_state::open(state);
-    let r = rows(c, memory.len(), false, false, !card_state::busy(open));
+    let r = rows(
+        card.core,
+        memory.len(),
+        false,
+        false,
+        !card_state::busy(open),
+    );
     let n = refusal(&[2, 3, 5], r);
     if n != 0 {
         return refused(card, n);
     }
     match open {
-        Open::Busy(next) => answered(card, with_state(c, next), Answer::Over),
-        Open::Nothing => answered(card, c, Answer::Silence),
-        Open::Read(_) => answered(card, c, Answer::Silence),
-        Open::Write(_) => answered(card, c, Answer::Silence),
+        Open::Busy(next) => answered(card, with_state(card.core, next), Answer::Over),
+        Open::Nothing => answered(card, card.core, Answer::Silence),
+        Open::Read(_) => answered(card, card.core, Answer::Silence),
+        Open::Write(_) => answered(card, card.core, Answer::Silence),
     }
 }

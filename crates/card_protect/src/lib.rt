@@ -7,8 +7,8 @@ ghost use lib.Dec.{ltb};
 ghost use Rattle.crc.specs.Bits.{bit, bits};
 ghost use Rattle.card_model.specs.Settings.{BLOCK, GROUP};
 ghost use Rattle.card_model.specs.Protect.{groupOf, marked, putBit, mark, guarded, anyGuarded, markBits};
-use card_settings::BLOCK;
-use card_settings::GROUP;
+use card_model::size::BLOCK;
+use card_model::size::GROUP;
 use card_settings::groups;
 
 fn bit(byte: u8, k: u32) -> bool

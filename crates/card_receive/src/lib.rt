@@ -2,12 +2,15 @@
 ghost use mathlib.Core.Path.{_≡_};
 ghost use Rattle.card_model.specs.Frame.{receive};
 ghost use Rattle.card_finish.specs.Turned.{turned};
+
+pub mod judge;
+
 use card_finish::Turned;
 use card_finish::quiet;
 use card_finish::show_sd;
-use card_judge::judge;
 use card_model::card::Core;
 use card_model::done::Flag;
+use judge::judge;
 use wire_frame::command::FrameCheck;
 
 // the number of ina

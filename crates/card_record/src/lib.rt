@@ -8,14 +8,12 @@ use card_model::card::Bus;
 use card_model::card::Core;
 use card_model::card::EraseMarks;
 use card_model::card::Kept;
+use card_model::size::BLOCK;
 use card_model::state::State;
 use card_status::join;
 use card_status::no_bits;
 use card_status::only;
 use erase::no_erase;
-
-// The block length of command 0.
-const BLOCK: u16 = 512;
 
 pub fn with_bus(c: Core, bus: Bus) -> Core
     ensures { λ r. ⌜ r ≡ withBus c bus ⌝ }
@@ -132,7 +130,7 @@ pub fn reset(c: Core) -> Core
         app: false,
     };
     let mut next = with_erase(with_kept(with_bus(c, bus), no_bits()), no_erase());
-    next.length = BLOCK;
+    next.length = BLOCK as u16;
     next.written = 0;
     next
 }

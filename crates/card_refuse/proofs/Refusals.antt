@@ -10,17 +10,17 @@ use Rattle.card_model.specs.declared.card.Card.{Card}
 use Rattle.card_model.specs.Step.{Result, world, refusal, unless}
 use Rattle.card_call.specs.declared.Stepped.{Stepped}
 use Rattle.card_call.specs.Seen.{Seen, returned, seen}
-use Rattle.card_refuse.specs.Rows.{verdict}
+use Rattle.codec.specs.Answer.{nonzero}
 
-numbered : (n : ℕ) → (n ≡ 0 → ⊥) → verdict n ≡ some n
+numbered : (n : ℕ) → (n ≡ 0 → ⊥) → nonzero n ≡ some n
 numbered n h = rw (ne-eqb n 0 h)
 
-none-numbered : (n : ℕ) → n ≡ 0 → verdict n ≡ none
+none-numbered : (n : ℕ) → n ≡ 0 → nonzero n ≡ none
 none-numbered n h = rw (eq-eqb n 0 h)
 
 -- the rows as the code has them, q, and as the model has them, r
-module _ (n : ℕ) (ns : List ℕ) (q r : Rows) (judged : verdict n ≡ refusal ns q) (same : q ≡ r) where
-  found : verdict n ≡ refusal ns r
+module _ (n : ℕ) (ns : List ℕ) (q r : Rows) (judged : nonzero n ≡ refusal ns q) (same : q ≡ r) where
+  found : nonzero n ≡ refusal ns r
   found = judged ∙ ap (refusal ns) same
 
   pub none-applies : n ≡ 0 → refusal ns r ≡ none

@@ -11,16 +11,16 @@ use lib.ListN.{length, getD, drop, drop-of-length-le}
 use lib.Seq.{drop-cons}
 use Rattle.card_model.specs.declared.answer.Rows.{Rows}
 use Rattle.card_model.specs.Step.{applies, refusal}
-use Rattle.card_refuse.specs.Rows.{verdict}
+use Rattle.codec.specs.Answer.{nonzero}
 
 -- no row has number 0
-pub applied : (r : Rows) (n : ℕ) → applies r n ≡ true → verdict n ≡ some n
+pub applied : (r : Rows) (n : ℕ) → applies r n ≡ true → nonzero n ≡ some n
 unfolding applies
 applied r zero e = absurd (false≢true e)
 applied r (suc n) e = rw (ne-eqb (suc n) 0 (λ z. omega arith))
 
 module _ (ns : List ℕ) (r : Rows) (i : ℕ) where
-  pub row-applies : i < length ns → applies r (getD ns i 0) ≡ true → verdict (getD ns i 0) ≡ refusal (drop i ns) r
+  pub row-applies : i < length ns → applies r (getD ns i 0) ≡ true → nonzero (getD ns i 0) ≡ refusal (drop i ns) r
   unfolding refusal
   row-applies h e = applied r (getD ns i 0) e ∙ rw (drop-cons ns i 0 h, e)
 

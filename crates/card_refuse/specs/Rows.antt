@@ -1,7 +1,6 @@
--- The model's rows by the length of memory, and a refusal as a number.
+-- The model's rows by the length of memory.
 use mathlib.Core.Path.{_≡_}
-use mathlib.Core.Bool.{Bool, false, cond, not}
-use mathlib.Core.Option.{Option, none, some}
+use mathlib.Core.Bool.{Bool, false, not}
 use Prim.Native.Nat.{ℕ, _≤_}
 use lib.Dec.{eqb}
 use Rattle.card_model.specs.declared.answer.Rows.{Rows}
@@ -19,10 +18,6 @@ rowsOf c memory size buffer closed = record {
   closed = closed;
   settings = false;
 }
-
--- 0 where no row applies
-abbrev pub verdict : ℕ → Option ℕ
-verdict n = cond (eqb n 0) none (some n)
 
 -- what rows 2 and 3 leave known: memory has its size, and the size its bound
 pub record Sized (c : Core) (memory : ℕ) : Type 0 where

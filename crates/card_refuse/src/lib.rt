@@ -1,7 +1,8 @@
 // Which rows of the table of refused calls apply to what a call is handed, and the first of a call's own rows that does.
 ghost use mathlib.Core.Path.{_≡_};
 ghost use Rattle.card_model.specs.Step.{applies, refusal};
-ghost use Rattle.card_refuse.specs.Rows.{rowsOf, verdict};
+ghost use Rattle.codec.specs.Answer.{nonzero};
+ghost use Rattle.card_refuse.specs.Rows.{rowsOf};
 use card_model::answer::Rows;
 use card_model::card::Core;
 use card_settings::capacity;
@@ -37,7 +38,7 @@ fn applies(r: Rows, number: u8) -> bool
 
 // The first of the rows that applies; 0 where none does.
 pub fn refusal(rows: &[u8], r: Rows) -> u8
-    ensures { λ n. ⌜ verdict n ≡ refusal (now (rows .entry)) r ⌝ }
+    ensures { λ n. ⌜ nonzero n ≡ refusal (now (rows .entry)) r ⌝ }
 {
     let mut i: usize = 0;
     while i < rows.len() {

@@ -21,21 +21,22 @@ use Rattle.card_model.specs.declared.answer.Answer.{Answer}
 use Rattle.card_model.specs.Frame as Frame
 use Rattle.card_model.specs.Step as Step
 use Rattle.card_model.specs.Step.{answer, silent, wire, replyOf}
-use Rattle.card_respond.specs.Sent.{carried, Sends}
+use Rattle.card_call.specs.Replied.{replied}
+use Rattle.card_respond.specs.Sent.{Sends}
 
 pub sends : (f : Format) (vs s out after : List ℕ) (e : Encoded) (a : Answer) → encoding e after ≡ encode f vs out → 17 ≤ length out
-    → fits (f .slots) vs ≡ true → image f vs ≡ s → answer a ≡ carried (encoded e) → Sends s out after a
+    → fits (f .slots) vs ≡ true → image f vs ≡ s → answer a ≡ replied (encoded e) → Sends s out after a
 unfolding encode
 sends f vs s out after e a h room fit im said =
     let g : encoding e after ≡ emit s out = h ∙ rw (le-ltb (length out) 17 room, fit) (ap (λ (x : List ℕ). emit x out) im) in
-    record { count = said ∙ ap (λ (x : Encoding). carried (x .answer)) g; buffer = ap (λ (x : Encoding). x .buffer) g }
+    record { count = said ∙ ap (λ (x : Encoding). replied (x .answer)) g; buffer = ap (λ (x : Encoding). x .buffer) g }
 
 pub sends-r2 : (register out after : List ℕ) (e : Encoded) (a : Answer) → encoding e after ≡ encodeR2 register out → length register ≡ 16
-    → 17 ≤ length out → answer a ≡ carried (encoded e) → Sends (r2Bytes register) out after a
+    → 17 ≤ length out → answer a ≡ replied (encoded e) → Sends (r2Bytes register) out after a
 unfolding encodeR2
 sends-r2 register out after e a h l room said =
     let g : encoding e after ≡ emit (r2Bytes register) out = h ∙ simp (eq-eqb (length register) 16 l, le-ltb (length out) 17 room) in
-    record { count = said ∙ ap (λ (x : Encoding). carried (x .answer)) g; buffer = ap (λ (x : Encoding). x .buffer) g }
+    record { count = said ∙ ap (λ (x : Encoding). replied (x .answer)) g; buffer = ap (λ (x : Encoding). x .buffer) g }
 
 -- ---- fields that fit
 

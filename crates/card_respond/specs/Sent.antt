@@ -31,10 +31,6 @@ messageBy c index word (R7 voltage pattern) = Frame.plain (image Wire.r7 (voltag
 abbrev pub message : Core → Message → Frame.Message
 message c m = messageBy c (m .index) (m .word) (m .response)
 
-abbrev pub carried : Outcome ℕ → Outcome Reply
-carried (done n) = done (Step.sent n)
-carried (refused k) = refused k
-
 -- these bytes are sent, as a prefix of the buffer
 pub record Sends (s before after : List ℕ) (r : Answer) : Type 0 where
   pub count : answer r ≡ done (Step.sent (length s))

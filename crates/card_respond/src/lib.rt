@@ -3,17 +3,17 @@ ghost use mathlib.Core.Path.{_≡_};
 ghost use mathlib.Core.List.{[], _∷_, _++_};
 ghost use Prim.Native.Nat.{_%_, _^_, _≤_};
 ghost use lib.ListN.{length, drop};
-ghost use Rattle.codec.specs.Answer.{encoded, done};
+ghost use Rattle.codec.specs.Answer.{done};
 ghost use Rattle.codec.specs.Format.{image};
 ghost use Rattle.wire_response.specs.Response.{r1, r2Bytes, r3, r6, r7};
 ghost use Rattle.wire_response.specs.Status.{shortStatus};
 ghost use Rattle.card_model.specs.Status.{shown};
 ghost use Rattle.card_model.specs.Step.{answer, wire, replyOf};
-ghost use Rattle.card_respond.specs.Sent.{message, carried, Sends, responded, onLine};
+ghost use Rattle.card_respond.specs.Sent.{message, Sends, responded, onLine};
+use card_call::report;
 use card_model::answer::Answer;
 use card_model::card::Core;
 use card_model::done::Response;
-use codec::Encoded;
 use wire_response::encode_r1;
 use wire_response::encode_r2;
 use wire_response::encode_r3;
@@ -26,15 +26,6 @@ pub struct Message {
     pub response: Response,
     pub index: u8,
     pub word: u32,
-}
-
-fn sent(e: Encoded) -> Answer
-    ensures { λ r. ⌜ answer r ≡ carried (encoded e) ⌝ }
-{
-    match e {
-        Encoded::Wrote(n) => Answer::Sent(n),
-        Encoded::Refused(k) => Answer::Refused(k),
-    }
 }
 
 // The status with COM_CRC_ERROR as the line has it.
@@ -51,14 +42,14 @@ fn send_r1(index: u8, word: u32, crc: bool, out: &mut [u8]) -> Answer
     requires { ⌜ 17 ≤ length (now out) ⌝ }
     ensures { λ r. ⌜ Sends (image (r1 index) (shown crc word ∷ [])) (now (out .entry)) (now (out .exit)) r ⌝ }
 {
-    sent(encode_r1(index & 63, shown(crc, word), out))
+    report(encode_r1(index & 63, shown(crc, word), out))
 }
 
 fn send_r6(rca: u16, word: u32, crc: bool, out: &mut [u8]) -> Answer
     requires { ⌜ 17 ≤ length (now out) ⌝ }
     ensures { λ r. ⌜ Sends (image r6 (rca ∷ (shortStatus (shown crc word) ∷ []))) (now (out .entry)) (now (out .exit)) r ⌝ }
 {
-    sent(encode_r6(rca, short_status(shown(crc, word)), out))
+    report(encode_r6(rca, short_status(shown(crc, word)), out))
 }
 
 // R2: the sixteen bytes of a register, with its own check.
@@ -66,21 +57,21 @@ fn send_r2(register: [u8; 16], out: &mut [u8]) -> Answer
     requires { ⌜ 17 ≤ length (now out) ⌝ }
     ensures { λ r. ⌜ Sends (r2Bytes register) (now (out .entry)) (now (out .exit)) r ⌝ }
 {
-    sent(encode_r2(&register, out))
+    report(encode_r2(&register, out))
 }
 
 fn send_r3(ocr: u32, out: &mut [u8]) -> Answer
     requires { ⌜ 17 ≤ length (now out) ⌝ }
     ensures { λ r. ⌜ Sends (image r3 (ocr ∷ [])) (now (out .entry)) (now (out .exit)) r ⌝ }
 {
-    sent(encode_r3(ocr, out))
+    report(encode_r3(ocr, out))
 }
 
 fn send_r7(voltage: u8, pattern: u8, out: &mut [u8]) -> Answer
     requires { ⌜ 17 ≤ length (now out) ⌝ }
     ensures { λ r. ⌜ Sends (image r7 (voltage ∷ (pattern ∷ []))) (now (out .entry)) (now (out .exit)) r ⌝ }
 {
-    sent(encode_r7(voltage & 15, pattern, out))
+    report(encode_r7(voltage & 15, pattern, out))
 }
 
 // R6 shows the RCA of the record, R2 its registers.

@@ -1,28 +1,26 @@
 -- What a caller sees of a block that is sent, or of the encoder's refusal.
-use mathlib.Core.Path.{_≡_, refl, ap, ap₂, _∙_}
+use mathlib.Core.Path.{_≡_, ap, _∙_}
 use mathlib.Core.List.{List}
 use Prim.Native.Nat.{ℕ}
 use Rattle.codec.specs.declared.Encoded.{Encoded}
-use Rattle.codec.specs.Answer.{Encoding, encoding}
+use Rattle.codec.specs.Answer.{Outcome, Encoding, encoded, encoding}
 use Rattle.wire_packet.specs.Packet.{encodePacket}
 use Rattle.card_model.specs.declared.answer.Answer.{Answer}
 use Rattle.card_model.specs.declared.card.Core.{Core}
 use Rattle.card_model.specs.declared.card.Card.{Card}
 use Rattle.card_call.specs.declared.Stepped.{Stepped}
-use Rattle.card_call.specs.Seen.{returned}
+use Rattle.card_model.specs.Step.{Reply, answer}
+use Rattle.card_call.specs.Seen.{Seen, returned}
+use Rattle.card_call.specs.Replied.{replied}
 use Rattle.card_call.proofs.Turns.{after}
-use Rattle.card_send.specs.Sending.{reported, sending}
+use Rattle.card_send.specs.Sending.{sending}
 
 module _ (r : Stepped) (card : Card) (memory made : List ℕ) where
-  as-effect : (core : Core) (e : Encoded) → returned (after card core (reported e)) memory made ≡ sending card core memory (encoding e made)
-  as-effect core (Encoded.Wrote n) = refl
-  as-effect core (Encoded.Refused k) = refl
-
-  pub sent-as : (a : Answer) (d core : Core) (e : Encoded) (x : Encoding) → r ≡ after card d a → a ≡ reported e → d ≡ core → encoding e made ≡ x
-      → returned r memory made ≡ sending card core memory x
+  pub sent-as : (a : Answer) (d core : Core) (e : Encoded) (x : Encoding) → r ≡ after card d a → answer a ≡ replied (encoded e) → d ≡ core
+      → encoding e made ≡ x → returned r memory made ≡ sending card core memory x
   sent-as a d core e x p q s h =
-      ap (λ (y : Stepped). returned y memory made) (p ∙ ap₂ (after card) s q)
-      ∙ as-effect core e
+      ap (λ (y : Stepped). returned y memory made) (p ∙ ap (λ (y : Core). after card y a) s)
+      ∙ ap {B = Seen} (λ (y : Outcome Reply). record { answer = y; card = record { core = core; line = card .line }; memory = memory; out = made }) q
       ∙ ap (sending card core memory) h
 
 -- the same payload

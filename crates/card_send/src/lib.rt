@@ -9,9 +9,10 @@ ghost use Rattle.card_model.specs.Settings.{scrBytes};
 ghost use Rattle.card_model.specs.Record.{withState};
 ghost use Rattle.card_model.specs.Data.{word32, markBytes, holdRead};
 ghost use Rattle.card_call.specs.Seen.{returned, turned};
-ghost use Rattle.card_send.specs.Sending.{reported, sending};
+ghost use Rattle.card_send.specs.Sending.{sending};
 use card_call::Stepped;
 use card_call::answered;
+use card_call::report;
 use card_model::answer::Answer;
 use card_model::card::Card;
 use card_model::state::Source;
@@ -19,16 +20,6 @@ use card_model::state::State;
 use card_protect::mark_word;
 use card_record::raise;
 use card_record::with_state;
-use codec::Encoded;
-
-fn report(sent: Encoded) -> Answer
-    ensures { λ r. ⌜ r ≡ reported sent ⌝ }
-{
-    match sent {
-        Encoded::Wrote(n) => Answer::Sent(n),
-        Encoded::Refused(k) => Answer::Refused(k),
-    }
-}
 
 // The payload, and on to the next state.
 pub fn send(card: Card, next: State, payload: &[u8], out: &mut [u8]) -> Stepped
@@ -37,9 +28,8 @@ pub fn send(card: Card, next: State, payload: &[u8], out: &mut [u8]) -> Stepped
         → returned r memory (now (out .exit))
         ≡ sending card (withState (card .core) next) memory (encodePacket (now (payload .entry)) (now (out .entry)))) ⌝ }
 {
-    let core = card.core;
     let answer = report(wire_packet::encode(payload, out));
-    answered(card, with_state(core, next), answer)
+    answered(card, with_state(card.core, next), answer)
 }
 
 // A number of 32 bits, high byte first; the transfer is over.
@@ -88,11 +78,14 @@ pub fn send_scr(card: Card, out: &mut [u8]) -> Stepped
 pub fn hold(card: Card, bit: u8, multiple: bool, address: u32) -> Stepped
     ensures { λ r. ⌜ ((memory out : List ℕ) → returned r memory out ≡ turned card memory out (holdRead (card .core) multiple address bit)) ⌝ }
 {
-    let core = card.core;
     let held = State::Data(Source::Blocks {
         multiple: multiple,
         address: address,
         held: true,
     });
-    answered(card, with_state(raise(core, bit), held), Answer::Silence)
+    answered(
+        card,
+        with_state(raise(card.core, bit), held),
+        Answer::Silence,
+    )
 }

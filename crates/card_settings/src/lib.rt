@@ -8,12 +8,9 @@ mod pair;
 pub mod register;
 
 use card_model::settings::Settings;
+use card_model::size::BLOCK;
+use card_model::size::GROUP;
 use reg_csd::Csd;
-
-// The block length of the card, and the blocks of a protection group.
-pub const BLOCK: u32 = 512;
-
-pub const GROUP: u32 = 32;
 
 // Limits of the block count and of the start polls.
 pub const LEAST: u32 = 4;

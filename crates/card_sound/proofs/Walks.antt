@@ -1,5 +1,5 @@
 -- Lists walked by a loop, an element at a time: `anyByte` and `markedFrom`.
-use mathlib.Core.Path.{_≡_, sym, ap, _∙_}
+use mathlib.Core.Path.{_≡_, refl, sym, ap, _∙_}
 use mathlib.Core.Bool.{Bool, true, false, not, _||_}
 use mathlib.Core.List.{List}
 use Prim.Native.Nat.{ℕ, _+_, _/_, _%_, _^_, _≤_, _<_}
@@ -19,15 +19,16 @@ module _ (s : List ℕ) (i : ℕ) where
   unfolding anyByte
   anyByte-at h = rw (add-one i, drop-cons s i 0 h)
 
-  pub anyByte-found : i < length s → (getD s i 0 ≡ 0 → ⊥) → anyByte (drop i s) ≡ true
-  anyByte-found h n = anyByte-at h ∙ ap (λ (t : Bool). not t || anyByte (drop (i + 1) s)) (ne-eqb _ _ n)
+  -- what was found, and the bytes that are left
+  pub anyByte-next : (found : Bool) → i < length s
+      → found || anyByte (drop i s) ≡ (found || not (eqb (getD s i 0) 0)) || anyByte (drop (i + 1) s)
+  anyByte-next true h = refl
+  anyByte-next false h = anyByte-at h
 
-  pub anyByte-more : i < length s → getD s i 0 ≡ 0 → anyByte (drop i s) ≡ anyByte (drop (i + 1) s)
-  anyByte-more h z = anyByte-at h ∙ ap (λ (t : Bool). not t || anyByte (drop (i + 1) s)) (eq-eqb _ _ z)
-
-  pub anyByte-end : length s ≤ i → anyByte (drop i s) ≡ false
+  pub anyByte-end : (found : Bool) → length s ≤ i → found || anyByte (drop i s) ≡ found
   unfolding anyByte
-  anyByte-end h = rw (drop-of-length-le s h)
+  anyByte-end true h = refl
+  anyByte-end false h = rw (drop-of-length-le s h)
 
 -- ---- a group's mark, or one behind it
 
@@ -38,7 +39,7 @@ module _ (marks : List ℕ) (group : ℕ) where
       rw (
         List·getD-eq-default marks 0 h,
         zero-div (2 ^ (group % 8)),
-        anyByte-end marks (group / 8 + 1) (omega arith),
+        anyByte-end marks (group / 8 + 1) false (omega arith),
       )
 
   pub marked-here : (getD marks (group / 8) 0 / 2 ^ (group % 8) ≡ 0 → ⊥) → true ≡ markedFrom marks group

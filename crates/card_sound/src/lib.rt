@@ -7,7 +7,7 @@ mod marks;
 mod state;
 
 use card_model::card::Core;
-use card_settings::BLOCK;
+use card_model::size::BLOCK;
 use card_settings::allowed;
 use card_settings::capacity;
 use card_settings::csd_of;

@@ -3,18 +3,17 @@ ghost use mathlib.Core.Path.{_≡_};
 ghost use lib.ListN.{drop};
 ghost use Rattle.card_model.specs.Soundness.{anyByte, markedFrom};
 
-// Some byte from a place on is not zero.
+// Some byte from a place on is not zero. It looks at all of them, many at once.
 fn any_byte(marks: &[u8], start: usize) -> bool
     ensures { λ r. ⌜ r ≡ anyByte (drop start (now (marks .entry))) ⌝ }
 {
+    let mut found = false;
     let mut i = start;
     while i < marks.len() {
-        if marks[i] != 0 {
-            return true;
-        }
+        found = found | (marks[i] != 0);
         i += 1;
     }
-    false
+    found
 }
 
 // A mark of a group or of one behind it.

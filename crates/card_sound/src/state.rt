@@ -2,8 +2,8 @@
 ghost use mathlib.Core.Path.{_≡_};
 ghost use Rattle.card_model.specs.Soundness.{offWrite, writtenMost, markOutside, badRca, badApp};
 use card_model::card::EraseMark;
+use card_model::size::BLOCK;
 use card_model::state::Open;
-use card_settings::BLOCK;
 use card_state::sink_address;
 
 const READY: u8 = 1;

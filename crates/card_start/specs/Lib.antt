@@ -1,2 +1,2 @@
--- Start checks by number.
-pub mod Verdict
+-- What comes of start checks.
+pub mod Outcome

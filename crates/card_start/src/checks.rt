@@ -1,13 +1,14 @@
 // Start checks, in their order: the number of the bit of the first that fails, 0 for none.
 ghost use mathlib.Core.Path.{_≡_};
 ghost use Rattle.card_model.specs.Checks.{outside, firstFailure, addressChecks, readChecks, writeChecks};
-ghost use Rattle.card_start.specs.Verdict.{verdict, outcome};
+ghost use Rattle.codec.specs.Answer.{nonzero};
+ghost use Rattle.card_start.specs.Outcome.{outcome};
 use crate::done::ran;
 use card_model::card::Core;
 use card_model::done::Done;
 use card_model::done::Response;
+use card_model::size::BLOCK;
 use card_record::raise;
-use card_settings::BLOCK;
 use card_status::ADDRESS_ERROR;
 use card_status::BLOCK_LEN_ERROR;
 use card_status::OUT_OF_RANGE;
@@ -22,7 +23,7 @@ fn outside(top: u64, address: u32) -> bool
 }
 
 pub fn address_check(top: u64, address: u32) -> u8
-    ensures { λ r. ⌜ verdict r ≡ firstFailure (addressChecks top address) ⌝ }
+    ensures { λ r. ⌜ nonzero r ≡ firstFailure (addressChecks top address) ⌝ }
 {
     if outside(top, address) {
         return OUT_OF_RANGE;
@@ -31,7 +32,7 @@ pub fn address_check(top: u64, address: u32) -> u8
 }
 
 pub fn read_check(top: u64, length: u16, address: u32) -> u8
-    ensures { λ r. ⌜ verdict r ≡ firstFailure (readChecks top length address) ⌝ }
+    ensures { λ r. ⌜ nonzero r ≡ firstFailure (readChecks top length address) ⌝ }
 {
     if outside(top, address) {
         return OUT_OF_RANGE;
@@ -43,7 +44,7 @@ pub fn read_check(top: u64, length: u16, address: u32) -> u8
 }
 
 pub fn write_check(top: u64, length: u16, wp: bool, address: u32) -> u8
-    ensures { λ r. ⌜ verdict r ≡ firstFailure (writeChecks top length wp address) ⌝ }
+    ensures { λ r. ⌜ nonzero r ≡ firstFailure (writeChecks top length wp address) ⌝ }
 {
     if length as u32 != BLOCK {
         return BLOCK_LEN_ERROR;
@@ -62,7 +63,7 @@ pub fn write_check(top: u64, length: u16, wp: bool, address: u32) -> u8
 
 // What a command does, unless a start check failed.
 pub fn checked(c: Core, bit: u8, done: Done) -> Done
-    ensures { λ r. ⌜ r ≡ outcome c (verdict bit) done ⌝ }
+    ensures { λ r. ⌜ r ≡ outcome c (nonzero bit) done ⌝ }
 {
     if bit == NONE {
         return done;

@@ -9,22 +9,21 @@ use card_call::Stepped;
 use card_call::refused;
 use card_model::answer::Answer;
 use card_model::card::Card;
+use card_model::size::BLOCK;
 use card_model::state::Open;
 use card_refuse::refusal;
 use card_refuse::rows;
-use card_settings::BLOCK;
 use wire_packet::CHECK;
 
 pub fn take(card: Card, memory: &[u8], out: &mut [u8]) -> Stepped
     ensures { λ r. ⌜ returned r (now (memory .entry)) (now (out .exit)) ≡ stepped card (now (memory .entry)) (takeBlock (now (out .entry))) ⌝ }
 {
-    let c = card.core;
-    let bus = c.bus;
+    let bus = card.core.bus;
     let state = bus.state;
     let open = card_state::open(state);
     let room = BLOCK as usize + CHECK;
     let r = rows(
-        c,
+        card.core,
         memory.len(),
         false,
         out.len() < room,

@@ -1,6 +1,9 @@
 -- Answers of encoders and decoders, and the numbers of 01's table of refused calls.
+use mathlib.Core.Bool.{cond}
 use mathlib.Core.List.{List, [], _++_}
+use mathlib.Core.Option.{Option, none, some}
 use Prim.Native.Nat.{ℕ}
+use lib.Dec.{eqb}
 use lib.ListN.{length, drop}
 use Rattle.codec.specs.declared.Encoded.{Encoded}
 use Rattle.codec.specs.declared.Encoded.the-variants.{Wrote, Refused}
@@ -52,3 +55,7 @@ why (refused k) = k
 abbrev pub part : Outcome (List ℕ) → List ℕ
 part (done p) = p
 part (refused k) = []
+
+-- a number that says which, or 0 for none
+abbrev pub nonzero : ℕ → Option ℕ
+nonzero n = cond (eqb n 0) none (some n)

@@ -7,7 +7,6 @@ use native.Mathlib.Omega.{arith}
 use borrow.Author.Tests.{eqb-true, eqb-false, eq-eqb, ltb-true, lt-ltb, leb-true, le-leb}
 use lib.Dec.{eqb, ltb, leb}
 use lib.Pow.{pow-pos, shl-shr}
-use Rattle.codec.proofs.Bits.{both}
 use Rattle.reg_size.specs.declared.SizePair.{SizePair}
 use Rattle.reg_size.specs.declared.SizePair.the-variants.{Pair, NoPair}
 use Rattle.reg_size.specs.Size.{Gives, IsPair, divides, pairFrom, sizePair}
@@ -38,7 +37,8 @@ gives-divides n size mult g =
     let q : n / u ≡ size + 1 = ap (λ (x : ℕ). x / u) (sym (g .count)) ∙ shl-shr (size + 1) (mult + 2) in
     let r : n % u ≡ 0 = ap (λ (x : ℕ). x % u) (sym (g .count)) ∙ mul-mod-left (size + 1) u in
     let pos : 0 < n = omega (arith, g .count, pow-pos (mult + 2)) in
-    both (eq-eqb (n % u) 0 r) (both (lt-ltb 0 n pos) (le-leb (n / u) 4096 (omega (arith, q, g .sizeFits))))
+    and-eq-true-iff (eqb (n % u) 0) _ .1
+    (eq-eqb (n % u) 0 r, and-eq-true-iff (ltb 0 n) _ .1 (lt-ltb 0 n pos, le-leb (n / u) 4096 (omega (arith, q, g .sizeFits))))
 
 -- ---- k multipliers from `mult` on
 

@@ -1,12 +1,15 @@
-// A call's record, and its answer as a line of output; the two calls that leave memory as it is.
+// A call's record, and its answer as a line of output. The call of a frame is in replay_line, since it rests on all commands.
 ghost use mathlib.Core.Path.{_≡_};
 ghost use mathlib.Core.List.{List};
 ghost use Prim.Native.Nat.{ℕ};
 ghost use lib.ListN.{replicate};
-ghost use Rattle.card_model.specs.Step.{takeBlock, busyOver};
+ghost use Rattle.card_model.specs.Step.{blockIn, takeBlock, busyOver};
 ghost use Rattle.card_call.specs.Seen.{returned, stepped};
 ghost use Rattle.replay_write.specs.declared.Kind.the-variants.{Response, Block};
 ghost use Rattle.replay_answer.specs.Played.{played, shown, onText};
+
+pub mod bench;
+
 use card_call::Stepped;
 use card_model::card::Card;
 use codec::Encoded;
@@ -30,6 +33,15 @@ pub fn answer_line(kind: Kind, s: Stepped, out: &[u8], text: &mut [u8]) -> Repla
         card: card,
         wrote: replay_write::write(kind, answer, out, text),
     }
+}
+
+pub fn block(card: Card, memory: &mut [u8], bytes: [u8; 514], text: &mut [u8]) -> Replayed
+    ensures { λ r.
+        ⌜ shown r (now (memory .exit)) (now (text .exit))
+        ≡ onText (played Response (stepped card (now (memory .entry)) (blockIn bytes))) (now (text .entry)) ⌝ }
+{
+    let s = card_block_in::block_in(card, &bytes, memory);
+    answer_line(Kind::Response, s, &[], text)
 }
 
 // The output buffer is zero before the call.

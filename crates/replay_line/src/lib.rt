@@ -1,18 +1,33 @@
 // The replay of lines on the card: each line of input gives one call, and one line of output.
 ghost use mathlib.Core.Path.{_≡_};
-ghost use Rattle.replay_answer.specs.Played.{shown};
+ghost use lib.ListN.{take, replicate};
+ghost use Rattle.card_model.specs.Step.{commandFrame};
+ghost use Rattle.card_call.specs.Seen.{stepped};
+ghost use Rattle.replay_write.specs.declared.Kind.the-variants.{Response};
+ghost use Rattle.replay_answer.specs.Played.{played, shown, onText};
 ghost use Rattle.replay_line.specs.Replay.{playLine};
 use card_call::refused;
 use card_model::card::Card;
 use codec::Encoded;
 use replay_answer::Replayed;
 use replay_answer::answer_line;
+use replay_answer::block;
 use replay_answer::over;
 use replay_answer::take;
-use replay_call::block;
-use replay_call::command;
 use replay_read::Word;
 use replay_write::Kind;
+
+// A frame, in the first six bytes. Its output buffer is zero before the call.
+pub fn command(card: Card, memory: &mut [u8], bytes: [u8; 514], text: &mut [u8]) -> Replayed
+    ensures { λ r.
+        ⌜ shown r (now (memory .exit)) (now (text .exit))
+        ≡ onText (played Response (stepped card (now (memory .entry)) (commandFrame (take 6 bytes) (replicate 17 0))))
+        (now (text .entry)) ⌝ }
+{
+    let mut out: [u8; 17] = [0; 17];
+    let s = card_command::command_frame(card, &bytes[0..6], memory, &mut out);
+    answer_line(Kind::Response, s, &out, text)
+}
 
 pub fn play(card: Card, memory: &mut [u8], line: &[u8], text: &mut [u8]) -> Replayed
     ensures { λ r.

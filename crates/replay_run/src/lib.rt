@@ -1,37 +1,9 @@
 // The loop over an input, on the card of the bench.
-ghost use mathlib.Core.Path.{_≡_};
-ghost use Rattle.card_model.specs.Step.{start};
-ghost use Rattle.card_model.specs.Bench.{bench};
-use card_model::card::Card;
-use card_model::settings::Settings;
-use reg_cid::cid::Cid;
-use replay_print::answer;
+use replay_answer::bench::bench;
 use replay_read::front;
 use replay_session::Session;
+use replay_session::answer;
 use replay_session::hear_all;
-
-// 01's card of the bench, powered up: 64 blocks, unprotected, no polls, CID zero.
-pub fn bench(memory: &[u8; 32768]) -> Card
-    ensures { λ r. ⌜ r ≡ start bench ⌝ }
-{
-    let cid = Cid {
-        mid: 0,
-        oid: 0,
-        pnm: 0,
-        prv: 0,
-        psn: 0,
-        mdt: 0,
-    };
-    let settings = Settings {
-        blocks: 64,
-        polls: 0,
-        cid: cid,
-        permanent: false,
-        temporary: false,
-    };
-    let s = card_power::power_up(card_power::unpowered(), settings, memory);
-    s.card
-}
 
 // A proved loop has to end: it counts its reads down from a number that no run uses up.
 pub fn run(fd: i32) {

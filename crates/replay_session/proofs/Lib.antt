@@ -1,3 +1,4 @@
 -- A session, byte by byte and line by line.
+pub mod Printed
 pub mod Heard
 pub mod Laws

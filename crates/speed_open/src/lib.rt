@@ -19,7 +19,7 @@ fn settings(bytes: usize) -> Settings
         mdt: 0,
     };
     Settings {
-        blocks: (bytes / card_settings::BLOCK as usize % 0x1_0000_0000) as u32,
+        blocks: (bytes / card_model::size::BLOCK as usize % 0x1_0000_0000) as u32,
         polls: 0,
         cid: cid,
         permanent: false,

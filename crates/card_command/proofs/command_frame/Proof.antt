@@ -10,7 +10,7 @@ use Rattle.card_command.proofs.command_frame.Statement.{statement}
 use Rattle.card_command.proofs.command_frame.Tie as tie
 
 abbrev start : tie.After-refusal → tie.Start
-start n = n .before .before .before .before .before .before .before
+start n = n .before .before .before .before .before .before
 
 no : tie.Need-returns
 unfolding step framed

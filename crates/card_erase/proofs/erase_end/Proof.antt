@@ -6,7 +6,7 @@ use Rattle.card_model.specs.declared.card.Core.{Core}
 use Rattle.card_model.specs.declared.done.Response.the-variants.{R1}
 use Rattle.card_model.specs.Checks.{firstFailure, addressChecks}
 use Rattle.card_model.specs.Execute.{ran, dropErase, eraseEnd}
-use Rattle.card_start.specs.Verdict.{outcome}
+use Rattle.card_start.specs.Outcome.{outcome}
 use borrow.Author.Needs.{needs}
 use Rattle.card_erase.proofs.erase_end.Statement.{statement}
 use Rattle.card_erase.proofs.erase_end.Tie as tie

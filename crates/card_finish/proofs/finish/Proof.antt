@@ -21,7 +21,7 @@ finish-spec =
     (λ c κs. search needs)
     (λ c.
     let s = c .before .before .before in
-    let a = s .before .before .before .before .before .args in
+    let a = s .before .before .before .before .args in
     finished (a .command) (a .state) (a .done) _ _ _
     (c .with-app .ensures ∙ ap₂ (λ (x : Core) (b : Bool). withApp x b) (c .before .before .cleared .ensures) (c .before .sets-app .ensures))
     (s .before .before .index .ensures)

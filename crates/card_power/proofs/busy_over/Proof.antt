@@ -17,7 +17,7 @@ use Rattle.card_power.proofs.busy_over.Statement.{statement}
 use Rattle.card_power.proofs.busy_over.Tie as tie
 
 abbrev start : tie.After-refusal → tie.Start
-start n = n .before .before .before .before .before .before .before .before
+start n = n .before .before .before .before .before .before .before
 
 abbrev opened : tie.After-refusal → tie.After-open
 opened n = n .before .before .before .before

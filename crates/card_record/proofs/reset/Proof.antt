@@ -8,6 +8,7 @@ use Rattle.card_record.proofs.reset.Tie as tie
 
 pub reset-spec : {M : Type 1} → statement M
 reset-spec = tie.close (tie.spec (λ c κs. search needs) (λ c κs. search needs) (λ c κs. search needs) (λ c κs. search needs) (λ c κs. search needs)
+    (λ c. search needs)
     (λ c.
     let kept = c .before .before .with-kept in
     let e = c .with-erase .ensures ∙ ap₂ withErase

@@ -26,4 +26,4 @@ send-r1-spec =
     sends _ _ _ _ _ (e .encode-r1 .result) _ (e .encode-r1 .ensures) (w .before .before .pre)
     (fits-r1 _ _ (mask-lt (a .index) 6) (omega (arith, w .shown .ensures)))
     (ap₂ (λ (i s : ℕ). image (r1 i) (s ∷ [])) (and-mask (a .index) 6) (w .shown .ensures) ∙ image-r1 (a .index) _)
-    (c .sent .ensures)))
+    (c .report .ensures)))

@@ -14,4 +14,4 @@ send-r2-spec =
     (λ c. search needs)
     (λ c.
     let e = c .before .before .before in
-    sends-r2 _ _ _ (e .encode-r2 .result) _ (e .encode-r2 .ensures) (search needs) (e .before .before .before .before .pre) (c .sent .ensures)))
+    sends-r2 _ _ _ (e .encode-r2 .result) _ (e .encode-r2 .ensures) (search needs) (e .before .before .before .before .pre) (c .report .ensures)))

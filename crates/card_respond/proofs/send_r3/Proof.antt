@@ -15,4 +15,4 @@ send-r3-spec =
     (λ c.
     let e = c .before .before .before in
     let start = e .before .before .before in
-    sends _ _ _ _ _ (e .encode-r3 .result) _ (e .encode-r3 .ensures) (start .pre) (fits-r3 _ (start .fits .ocr .fits)) refl (c .sent .ensures)))
+    sends _ _ _ _ _ (e .encode-r3 .result) _ (e .encode-r3 .ensures) (start .pre) (fits-r3 _ (start .fits .ocr .fits)) refl (c .report .ensures)))

@@ -28,4 +28,4 @@ send-r6-spec =
     sends _ _ _ _ _ (e .encode-r6 .result) _ (e .encode-r6 .ensures) (w .before .before .pre)
     (fits-r6 _ _ (omega (arith, w .before .before .fits .rca .fits)) (s .short-status .ok))
     (ap (λ (n : ℕ). image r6 (a .rca ∷ (n ∷ []))) (s .short-status .ensures ∙ ap shortStatus (w .shown .ensures) ∙ short-cut _))
-    (c .sent .ensures)))
+    (c .report .ensures)))

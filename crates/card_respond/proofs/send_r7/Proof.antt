@@ -23,4 +23,4 @@ send-r7-spec =
     let a = start .args in
     sends _ _ _ _ _ (e .encode-r7 .result) _ (e .encode-r7 .ensures) (start .pre) (fits-r7 _ _ (mask-lt (a .voltage) 4) (start .fits .pattern .fits))
     (ap (λ (v : ℕ). image r7 (v ∷ (a .pattern ∷ []))) (and-mask (a .voltage) 4) ∙ image-r7 (a .voltage) (a .pattern))
-    (c .sent .ensures)))
+    (c .report .ensures)))

@@ -9,7 +9,7 @@ use Rattle.card_send.proofs.hold.Tie as tie
 held : tie.Need-returns
 held c memory out =
     let raised = c .before .before in
-    silent (c .answered .result) (raised .before .before .args .card) _ _
+    silent (c .answered .result) (raised .before .args .card) _ _
     (c .before .with-state .ensures ∙ ap₂ withState (raised .raise .ensures) refl)
     refl memory out (c .answered .ensures)
 

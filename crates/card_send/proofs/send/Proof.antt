@@ -7,7 +7,7 @@ use Rattle.card_send.proofs.send.Tie as tie
 sent : tie.Need-returns
 sent c memory =
     let encoded = c .before .before .before .before .before in
-    sent-as (c .answered .result) (encoded .before .before .before .before .before .args .card) memory _ _ _ _ (encoded .encode .result) _
+    sent-as (c .answered .result) (encoded .before .before .before .before .args .card) memory _ _ _ _ (encoded .encode .result) _
     (c .answered .ensures) (c .before .before .report .ensures) (c .before .with-state .ensures) (encoded .encode .ensures)
 
 pub send-spec : {M : Type 1} → statement M

@@ -21,7 +21,7 @@ use Rattle.card_take.proofs.take.Statement.{statement}
 use Rattle.card_take.proofs.take.Tie as tie
 
 abbrev start : tie.After-refusal → tie.Start
-start n = n .before .before .before .before .before .before .before .before .before
+start n = n .before .before .before .before .before .before .before .before
 
 abbrev opened : tie.After-refusal → tie.After-open
 opened n = n .before .before .before .before

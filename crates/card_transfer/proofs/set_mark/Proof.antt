@@ -6,7 +6,7 @@ use Rattle.card_model.specs.declared.done.Done.{Done}
 use Rattle.card_model.specs.declared.done.Effect.the-variants.{Protect}
 use Rattle.card_model.specs.declared.done.Response.the-variants.{R1}
 use Rattle.card_model.specs.Checks.{firstFailure, addressChecks}
-use Rattle.card_start.specs.Verdict.{outcome}
+use Rattle.card_start.specs.Outcome.{outcome}
 use borrow.Author.Needs.{needs}
 use Rattle.card_transfer.proofs.set_mark.Statement.{statement}
 use Rattle.card_transfer.proofs.set_mark.Tie as tie

@@ -10,7 +10,7 @@ use Rattle.card_model.specs.Record.{withWritten}
 use Rattle.card_model.specs.Protect.{guarded}
 use Rattle.card_model.specs.Checks.{firstFailure, writeChecks}
 use Rattle.card_model.specs.Execute.{ran, opening}
-use Rattle.card_start.specs.Verdict.{outcome}
+use Rattle.card_start.specs.Outcome.{outcome}
 use borrow.Author.Needs.{needs}
 use Rattle.card_transfer.proofs.write_blocks.Statement.{statement}
 use Rattle.card_transfer.proofs.write_blocks.Tie as tie

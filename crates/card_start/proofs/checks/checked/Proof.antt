@@ -1,4 +1,4 @@
--- By the verdict of the check.
+-- By the nonzero of the check.
 use mathlib.Core.Path.{ap, _∙_}
 use borrow.Author.Tests.{eq-eqb, ne-eqb}
 use Rattle.card_model.specs.declared.card.Core.{Core}

@@ -1,2 +1,0 @@
--- A law of the judgement.
-pub mod Judging

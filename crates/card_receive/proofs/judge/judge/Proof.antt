@@ -1,0 +1,59 @@
+-- Not allowed, another card, or it runs.
+use mathlib.Core.Path.{refl, sym, ap, _∙_}
+use borrow.Author.Needs.{needs}
+use borrow.Author.Tests.{not-true, not-false}
+use Rattle.card_model.specs.declared.card.Core.{Core}
+use Rattle.card_model.specs.declared.done.Verdict.the-variants.{NotAllowed, OtherCard, Ran}
+use Rattle.card_model.specs.Table.{own}
+use Rattle.card_model.specs.Execute.{run}
+use Rattle.card_model.specs.Frame.{judged}
+use Rattle.card_receive.proofs.Judging.{judge-by}
+use Rattle.card_receive.proofs.judge.judge.Statement.{statement}
+use Rattle.card_receive.proofs.judge.judge.Tie as tie
+
+pub judge-spec : {M : Type 1} → statement M
+judge-spec =
+    tie.close
+    (tie.spec
+    (λ c κs. search needs)
+    (λ c κs. search needs)
+    (λ c κs. search needs)
+    (λ c.
+    let legal = c .before .before in
+    let found = legal .before in
+    let a = found .before .before .args in
+    rw (
+      ← judge-by (a .c) (a .index) (a .argument) _ (own (a .c .bus) (a .argument)) (found .command-of .ensures) refl,
+      sym (legal .legal .ensures) ∙ not-true _ (c .before .if1 .taken),
+    )
+    (ap (judged NotAllowed (found .command-of .result)) (c .ran .ensures)))
+    (λ c κs. search needs)
+    (λ c κs. search needs)
+    (λ c κs. search needs)
+    (λ c.
+    let misses = c .before .before in
+    let mine = misses .before in
+    let legal = mine .before .before in
+    let found = legal .before in
+    let a = found .before .before .args in
+    rw (
+      ← judge-by (a .c) (a .index) (a .argument) _ _ (found .command-of .ensures) (mine .own .ensures),
+      sym (legal .legal .ensures) ∙ not-false _ (mine .before .if1 .left),
+      sym (misses .misses .ensures) ∙ c .before .if2 .taken,
+    )
+    (ap (judged OtherCard (found .command-of .result)) (c .ran2 .ensures)))
+    (λ c κs. search needs)
+    (λ c κs. search needs)
+    (λ c.
+    let misses = c .before .before .before in
+    let mine = misses .before in
+    let legal = mine .before .before in
+    let found = legal .before in
+    let a = found .before .before .args in
+    rw (
+      ← judge-by (a .c) (a .index) (a .argument) _ _ (found .command-of .ensures) (mine .own .ensures),
+      sym (legal .legal .ensures) ∙ not-false _ (mine .before .if1 .left),
+      sym (misses .misses .ensures) ∙ c .before .before .if2 .left,
+    )
+    (ap (judged Ran (found .command-of .result))
+    (c .run .ensures ∙ ap (λ (x : Core). run (found .command-of .result) x (a .argument)) (c .before .settled .ensures)))))

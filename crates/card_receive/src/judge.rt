@@ -1,0 +1,41 @@
+// Which command a frame asks for, whether it is allowed, and what it does then: the same in every bus mode.
+ghost use mathlib.Core.Path.{_≡_};
+ghost use Rattle.card_model.specs.Frame.{judge};
+use card_erase::settled;
+use card_index::command_of;
+use card_index::own;
+use card_model::card::Core;
+use card_model::done::Judged;
+use card_model::done::Response;
+use card_model::done::Verdict;
+use card_run::run;
+use card_start::done::ran;
+use card_table::legal;
+use card_table::misses;
+
+pub fn judge(c: Core, index: u8, argument: u32) -> Judged
+    ensures { λ r. ⌜ r ≡ judge c index argument ⌝ }
+{
+    let bus = c.bus;
+    let state = bus.state;
+    let command = command_of(bus, index, argument);
+    if !legal(command, state) {
+        return Judged {
+            verdict: Verdict::NotAllowed,
+            command: command,
+            done: ran(c, Response::Nothing),
+        };
+    }
+    if misses(command, own(bus.rca, argument)) {
+        return Judged {
+            verdict: Verdict::OtherCard,
+            command: command,
+            done: ran(c, Response::Nothing),
+        };
+    }
+    Judged {
+        verdict: Verdict::Ran,
+        command: command,
+        done: run(command, settled(command, c), argument),
+    }
+}

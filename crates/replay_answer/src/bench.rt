@@ -1,0 +1,30 @@
+// The card of the bench.
+ghost use mathlib.Core.Path.{_≡_};
+ghost use Rattle.card_model.specs.Step.{start};
+ghost use Rattle.card_model.specs.Bench.{bench};
+use card_model::card::Card;
+use card_model::settings::Settings;
+use reg_cid::cid::Cid;
+
+// 01's card, powered up: 64 blocks, unprotected, no polls, CID zero.
+pub fn bench(memory: &[u8; 32768]) -> Card
+    ensures { λ r. ⌜ r ≡ start bench ⌝ }
+{
+    let cid = Cid {
+        mid: 0,
+        oid: 0,
+        pnm: 0,
+        prv: 0,
+        psn: 0,
+        mdt: 0,
+    };
+    let settings = Settings {
+        blocks: 64,
+        polls: 0,
+        cid: cid,
+        permanent: false,
+        temporary: false,
+    };
+    let s = card_power::power_up(card_power::unpowered(), settings, memory);
+    s.card
+}

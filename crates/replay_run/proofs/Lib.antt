@@ -1,2 +1,0 @@
--- The card of the bench.
-pub mod Powered
