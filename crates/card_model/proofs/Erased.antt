@@ -12,6 +12,7 @@ use Rattle.card_model.specs.declared.card.EraseMarks.{EraseMarks}
 use Rattle.card_model.specs.declared.card.Core.{Core}
 use Rattle.card_model.specs.declared.command.Command.the-variants.{Erase}
 use Rattle.card_model.specs.declared.done.Response.the-variants.{R1}
+use Rattle.card_model.specs.declared.done.Effect.the-variants.{Sweep}
 use Rattle.card_model.specs.declared.done.Done.{Done}
 use Rattle.card_model.specs.Settings.{BLOCK, capacity}
 use Rattle.card_model.specs.Record.{noErase, isSet, address}
@@ -19,7 +20,7 @@ use Rattle.card_model.specs.Status.{OUT-OF-RANGE, ERASE-SEQ-ERROR, ERASE
 use Rattle.card_model.specs.Table.{row, legal}
 use Rattle.card_model.specs.Protect.{whole, anyGuarded}
 use Rattle.card_model.specs.Checks.{_sets_, outside, addressChecks}
-use Rattle.card_model.specs.Execute.{ran, raise, dropErase, eraseStart, eraseEnd, skipped, erase}
+use Rattle.card_model.specs.Execute.{ran, raise, dropErase, eraseStart, eraseEnd, skipped, moved, erase}
 use Rattle.card_model.specs.Soundness.{markOutside}
 use Rattle.card_model.proofs.Choices.{cond-elim}
 use Rattle.card_model.proofs.Facts.{Sturdy}
@@ -73,7 +74,20 @@ module _ (c : Core) (f : Sturdy c) where
       (λ e. record { sturdy = dropped; state = refl; settings = refl; marks = refl })
       (λ e. record { sturdy = dropped; state = refl; settings = refl; marks = refl })
 
--- the last block of a sweep is a block of the card
+-- a sweep inside the card
+sweep-right : (c : Core) → Sturdy c → legal Erase (c .bus .state) ≡ true → (first count : ℕ) → first + count ≤ c .settings .blocks
+    → Right c (record { core = moved Erase (dropErase (skipped c first count)); response = R1; effect = Sweep first count })
+unfolding all keepsRca row
+sweep-right c f permitted first count inside =
+    let a : Alike c (dropErase (skipped c first count)) = skipped-alike c f first count in
+    record {
+      sturdy = moved-sturdy (dropErase (skipped c first count)) (a .sturdy) Erase (rw (a .state) permitted) refl;
+      settings = a .settings;
+      marks = a .marks;
+      inside = inside;
+    }
+
+-- the last block of the sweep is a block of the card
 pub erase-right : (c : Core) → Sturdy c → legal Erase (c .bus .state) ≡ true → Right c (erase c)
 unfolding erase all keepsRca row
 erase-right c f permitted =
@@ -86,13 +100,5 @@ erase-right c f permitted =
     let order : first ≤ second = ltb-false second first e in
     let set = and-eq-true-iff (isSet (c .erase .first)) (isSet (c .erase .second)) .0 t in
     let below : second < capacity (c .settings) = mark-in (capacity (c .settings)) (c .erase .second) (set .1) (f .erase .second) in
-    let count = second / BLOCK + 1 - first / BLOCK in
-    let d = dropErase (skipped c (first / BLOCK) count) in
-    let a : Alike c d = skipped-alike c f (first / BLOCK) count in
-    record {
-      sturdy = moved-sturdy d (a .sturdy) Erase (rw (a .state) permitted) refl;
-      settings = a .settings;
-      marks = a .marks;
-      inside = omega arith;
-    }))
+    sweep-right c f permitted (first / BLOCK) (second / BLOCK + 1 - first / BLOCK) (omega arith)))
     (λ t. drop-right c f ERASE-SEQ-ERROR)

@@ -1,6 +1,8 @@
 -- Where memory has room, the part of it that is lent becomes the payload.
+use Prim.Native.Nat.{_+_}
 use borrow.Author.Needs.{needs}
 use borrow.Author.Tests.{le-leb, lt-leb}
+use lib.ListN.{length}
 use Rattle.card_effect.proofs.Sweeps.{stored-part}
 use Rattle.card_effect.proofs.store.Statement.{statement}
 use Rattle.card_effect.proofs.store.Tie as tie
@@ -9,7 +11,7 @@ returned : tie.Need-returns-2
 returned c =
     let d = c .before .before .before .before in
     let a = d .before .before .before .args in
-    rw (le-leb _ _ (d .if1 .left)) (stored-part (a .memory .now) (a .payload .now) _ (a .address) (d .if1 .left) (c .before .before .copy .ensures))
+    rw (le-leb (a .address + length (a .payload .now)) (length (a .memory .now)) (d .if1 .left)) (stored-part (a .memory .now) (a .payload .now) _ (a .address) (d .if1 .left) (c .before .before .copy .ensures))
 
 pub store-spec : {M : Type 1} → statement M
 store-spec =

@@ -36,7 +36,7 @@ returned : tie.Need-returns-2 Inv-loop μ-loop
 returned c =
     let at = c .before .loop in
     let a = c .before .before .before .before .before .args in
-    rw (le-leb _ _ (c .before .before .if1 .left))
+    rw (le-leb ((a .first + a .count) * BLOCK) (length (a .memory .now)) (c .before .before .if1 .left))
     (sym (swept-end (a .all) (a .marks .now) (at .block) _ (at .memory) (c .loop-test .left)) ∙ at .inv .4)
 
 pub sweep-spec : {M : Type 1} → statement M

@@ -1,9 +1,11 @@
 -- A first mark is wanted; then the start check, and the second mark.
-use mathlib.Core.Path.{sym, ap, ap₂, _∙_}
+use mathlib.Core.Path.{_≡_, sym, ap, ap₂, _∙_}
+use mathlib.Core.Bool.{true, false}
 use Prim.Native.Nat.{ℕ}
 use borrow.Author.Tests.{not-true, not-false}
 use Rattle.card_model.specs.declared.card.Core.{Core}
 use Rattle.card_model.specs.declared.done.Response.the-variants.{R1}
+use Rattle.card_model.specs.Record.{isSet}
 use Rattle.card_model.specs.Checks.{firstFailure, addressChecks}
 use Rattle.card_model.specs.Execute.{ran, dropErase, eraseEnd}
 use Rattle.card_start.specs.Outcome.{outcome}
@@ -21,7 +23,9 @@ erase-end-spec =
     (λ c κs. search needs)
     (λ c κs. search needs)
     (λ c.
-    rw (sym (c .before .before .before .before .is-set .ensures) ∙ not-true _ (c .before .before .before .if1 .taken))
+    let told = c .before .before .before .before in
+    let unset : isSet (told .before .before .args .c .erase .first) ≡ false = sym (told .is-set .ensures) ∙ not-true _ (c .before .before .before .if1 .taken) in
+    rw unset
     (c .ran .ensures ∙ ap (λ (x : Core). ran x R1) (c .before .drop-erase .ensures ∙ ap dropErase (c .before .before .raise .ensures))))
     (λ c κs. search needs)
     (λ c κs. search needs)
@@ -29,8 +33,10 @@ erase-end-spec =
     (λ c κs. search needs)
     (λ c κs. search needs)
     (λ c.
-    let a = c .before .before .before .before .before .before .before .before .args in
-    rw (sym (c .before .before .before .before .before .before .is-set .ensures) ∙ not-false _ (c .before .before .before .before .before .if1 .left))
+    let told = c .before .before .before .before .before .before in
+    let a = told .before .before .args in
+    let found : isSet (a .c .erase .first) ≡ true = sym (told .is-set .ensures) ∙ not-false _ (c .before .before .before .before .before .if1 .left) in
+    rw found
     (c .checked .ensures
     ∙ ap₂ (outcome (a .c))
     (c .before .before .before .address-check .ensures

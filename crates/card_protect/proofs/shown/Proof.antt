@@ -8,6 +8,8 @@ pub shown-spec : {M : Type 1} → statement M
 shown-spec =
     tie.close
     (tie.spec
-    (λ c. simp (le-ltb _ _ (c .if1 .taken)))
+    (λ c.
+    let a = c .before .before .args in
+    simp (le-ltb (a .group) (a .count) (c .if1 .taken)))
     (λ c κs. search needs)
     (λ c. simp (lt-ltb _ _ (c .before .if1 .left), c .marked-group .ensures)))

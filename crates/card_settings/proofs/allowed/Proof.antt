@@ -17,16 +17,16 @@ allowed-spec =
     tie.close
     (tie.spec
     (λ c. rw (lt-leb _ _ (c .if1 .taken)))
-    (λ c. rw (le-leb _ _ (c .before .before .if1 .left), lt-leb _ _ (c .if2 .taken)))
+    (λ c. simp (le-leb _ _ (c .before .before .if1 .left), lt-leb _ _ (c .if2 .taken)))
     (λ c κs. search needs)
     (λ c κs. search needs)
     (λ c.
     let d = c .before .before .before in
-    rw (le-leb _ _ (d .before .before .if1 .left), le-leb _ _ (d .if2 .left), sym (pair-is (c .before)) ∙ not-true _ (c .if3 .taken)))
+    simp (le-leb _ _ (d .before .before .if1 .left), le-leb _ _ (d .if2 .left), sym (pair-is (c .before)) ∙ not-true _ (c .if3 .taken)))
     (λ c.
     let e = c .before .before in
     let d = e .before .before .before in
-    rw (
+    simp (
       le-leb _ _ (d .before .before .if1 .left),
       le-leb _ _ (d .if2 .left),
       sym (pair-is (e .before)) ∙ not-false _ (e .if3 .left),
@@ -36,7 +36,7 @@ allowed-spec =
     (λ c.
     let e = c .before .before .before .before in
     let d = e .before .before .before in
-    rw (
+    simp (
       le-leb _ _ (d .before .before .if1 .left),
       le-leb _ _ (d .if2 .left),
       sym (pair-is (e .before)) ∙ not-false _ (e .if3 .left),

@@ -48,7 +48,7 @@ past-polls c r e = past-settings (c .before .before .before .before) r (fails _ 
 
 past-length : (c : tie.Else5) → Passed 3 (five (c .before .before .before .before .before .before .before .before .before .before .before .before .before .before .before .args .c))
 unfolding unsoundTests
-past-length c r e = past-polls (c .before .before .before .before) r (fails _ _ _ (rw (le-leb _ _ (c .before .before .if4 .left), le-leb _ _ (c .if5 .left))) e)
+past-length c r e = past-polls (c .before .before .before .before) r (fails _ _ _ (simp (le-leb _ _ (c .before .before .if4 .left), le-leb _ _ (c .if5 .left))) e)
 
 past-transfer : (c : tie.Else6) → Passed 4 (five (c .before .before .before .before .before .before .before .before .before .before .before .before .before .before .before .before .before .before .before .args .c))
 unfolding unsoundTests

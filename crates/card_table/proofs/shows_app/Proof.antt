@@ -1,6 +1,7 @@
 -- By the column of the kind.
 use mathlib.Core.Path.{sym, ap, _∙_}
 use borrow.Author.Needs.{needs}
+use Rattle.card_model.specs.Table.{showsApp}
 use Rattle.card_table.specs.declared.Columns.{Columns}
 use Rattle.card_table.proofs.shows_app.Statement.{statement}
 use Rattle.card_table.proofs.shows_app.Tie as tie
@@ -13,6 +14,6 @@ shows-app-spec =
     (λ c. search needs)
     (λ c. search needs)
     (λ c. search needs)
-    (λ c. rw (sym (ap (λ (x : Columns). x .kind) (c .before .before .row .ensures)) ∙ c .enum-told .given .1))
-    (λ c. rw (sym (ap (λ (x : Columns). x .kind) (c .before .before .row .ensures)) ∙ c .enum-told2 .given .1))
-    (λ c. rw (sym (ap (λ (x : Columns). x .kind) (c .before .before .row .ensures)) ∙ c .enum-told3 .given .1)))
+    (λ c. ap showsApp (sym (c .enum-told .given .1) ∙ ap (λ (x : Columns). x .kind) (c .before .before .row .ensures)))
+    (λ c. ap showsApp (sym (c .enum-told2 .given .1) ∙ ap (λ (x : Columns). x .kind) (c .before .before .row .ensures)))
+    (λ c. ap showsApp (sym (c .enum-told3 .given .1) ∙ ap (λ (x : Columns). x .kind) (c .before .before .row .ensures))))

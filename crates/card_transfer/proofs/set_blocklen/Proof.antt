@@ -15,15 +15,15 @@ set-blocklen-spec =
     (λ c κs. search needs)
     (λ c κs. search needs)
     (λ c.
-    rw (lt-leb _ _ (c .before .before .if1 .taken)) (c .ran .ensures ∙ ap (λ (x : Core). ran x R1) (c .before .raise .ensures)))
+    rw (lt-leb 1 (c .before .before .before .args .argument) (c .before .before .if1 .taken)) (c .ran .ensures ∙ ap (λ (x : Core). ran x R1) (c .before .raise .ensures)))
     (λ c κs. search needs)
     (λ c κs. search needs)
     (λ c.
-    rw (le-leb _ _ (c .before .before .before .if1 .left), lt-leb _ _ (c .before .before .if2 .taken))
+    simp (le-leb _ _ (c .before .before .before .if1 .left), lt-leb _ _ (c .before .before .if2 .taken))
     (c .ran2 .ensures ∙ ap (λ (x : Core). ran x R1) (c .before .raise2 .ensures)))
     (λ c. search needs)
     (λ c κs. search needs)
     (λ c κs. search needs)
     (λ c.
-    rw (le-leb _ _ (c .before .before .before .if1 .left), le-leb _ _ (c .before .before .if2 .left))
+    simp (le-leb _ _ (c .before .before .before .if1 .left), le-leb _ _ (c .before .before .if2 .left))
     (c .ran3 .ensures ∙ ap (λ (x : Core). ran x R1) (c .before .with-length .ensures))))

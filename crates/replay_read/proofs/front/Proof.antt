@@ -1,7 +1,9 @@
 -- `front` is the part that `take` gives.
-use mathlib.Core.Path.{sym}
+use mathlib.Core.Path.{sym, ap}
+use Prim.Native.Nat.{ℕ}
 use native.Mathlib.Nat.{sub-zero}
 use borrow.Author.Needs.{needs}
+use lib.ListN.{take}
 use lib.Seq.{take-all}
 use Rattle.replay_read.proofs.front.Statement.{statement}
 use Rattle.replay_read.proofs.front.Tie as tie
@@ -13,5 +15,7 @@ front-spec =
     (λ c. search needs)
     (λ c. search needs)
     (λ c. search needs)
-    (λ c. simp sub-zero)
+    (λ c.
+    let a = c .before .before .args in
+    ap (λ (k : ℕ). take k (a .s .now)) (sub-zero (a .n)))
     (λ c. sym (take-all _ _ (c .if1 .left))))

@@ -2,7 +2,7 @@
 use native.Mathlib.Omega.{arith}
 use borrow.Author.Needs.{needs}
 use borrow.Author.Tests.{lt-ltb, eq-eqb, ne-eqb}
-use lib.ListN.{length-set}
+use lib.ListN.{length, length-set}
 use Rattle.wire_response.specs.Response.{encodeR2}
 use Rattle.wire_frame.proofs.Frames.{length-stored}
 use Rattle.wire_response.proofs.Registers.{encode-register, copy-register}
@@ -11,7 +11,7 @@ use Rattle.wire_response.proofs.encode_r2.Tie as tie
 
 size : tie.Need-returns
 unfolding encodeR2
-size c = simp (ne-eqb _ _ (c .if1 .taken))
+size c = simp (ne-eqb (length (c .before .before .before .args .register .now)) 16 (c .if1 .taken))
 
 small : tie.Need-returns-2
 unfolding encodeR2

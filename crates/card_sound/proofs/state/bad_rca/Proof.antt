@@ -1,6 +1,7 @@
 -- By the number of the state.
 use borrow.Author.Tests.{eq-eqb, ne-eqb, le-leb, lt-leb}
 use borrow.Author.Needs.{needs}
+use Rattle.card_model.specs.State.{ina}
 use Rattle.card_model.specs.Soundness.{badRca}
 use Rattle.card_sound.proofs.state.bad_rca.Statement.{statement}
 use Rattle.card_sound.proofs.state.bad_rca.Tie as tie
@@ -10,6 +11,6 @@ unfolding badRca
 bad-rca-spec =
     tie.close
     (tie.spec
-    (λ c. rw (eq-eqb _ _ (c .if1 .taken)))
-    (λ c. rw (ne-eqb _ _ (c .before .if1 .left), le-leb _ _ (c .if2 .taken)))
-    (λ c. rw (ne-eqb _ _ (c .before .if1 .left), lt-leb _ _ (c .if2 .left))))
+    (λ c. rw (eq-eqb (c .before .args .state) ina (c .if1 .taken)))
+    (λ c. simp (ne-eqb _ _ (c .before .if1 .left), le-leb _ _ (c .if2 .taken)))
+    (λ c. simp (ne-eqb _ _ (c .before .if1 .left), lt-leb _ _ (c .if2 .left))))

@@ -14,5 +14,5 @@ read-check-spec =
     (λ c κs. search needs)
     (λ c. rw (sym (c .before .outside .ensures) ∙ c .if1 .taken))
     (λ c. search needs)
-    (λ c. rw (sym (c .before .before .outside .ensures) ∙ c .before .if1 .left, le-ltb _ _ (c .if2 .taken)))
-    (λ c. rw (sym (c .before .before .outside .ensures) ∙ c .before .if1 .left, lt-ltb _ _ (c .if2 .left))))
+    (λ c. simp (sym (c .before .before .outside .ensures) ∙ c .before .if1 .left, le-ltb _ _ (c .if2 .taken)))
+    (λ c. simp (sym (c .before .before .outside .ensures) ∙ c .before .if1 .left, lt-ltb _ _ (c .if2 .left))))

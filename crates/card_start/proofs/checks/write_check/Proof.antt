@@ -13,10 +13,10 @@ write-check-spec =
     (tie.spec
     (λ c. rw (ne-eqb _ _ (c .if1 .taken)))
     (λ c κs. search needs)
-    (λ c. rw (eq-eqb _ _ (c .before .before .if1 .left), sym (c .before .outside .ensures) ∙ c .if2 .taken))
+    (λ c. simp (eq-eqb _ _ (c .before .before .if1 .left), sym (c .before .outside .ensures) ∙ c .if2 .taken))
     (λ c.
-    rw (eq-eqb _ _ (c .before .before .before .if1 .left), sym (c .before .before .outside .ensures) ∙ c .before .if2 .left, ne-eqb _ _ (c .if3 .taken)))
+    simp (eq-eqb _ _ (c .before .before .before .if1 .left), sym (c .before .before .outside .ensures) ∙ c .before .if2 .left, ne-eqb _ _ (c .if3 .taken)))
     (λ c.
-    rw (eq-eqb _ _ (c .before .before .before .before .if1 .left), sym (c .before .before .before .outside .ensures) ∙ c .before .before .if2 .left, eq-eqb _ _ (c .before .if3 .left), c .if4 .taken))
+    simp (eq-eqb _ _ (c .before .before .before .before .if1 .left), sym (c .before .before .before .outside .ensures) ∙ c .before .before .if2 .left, eq-eqb _ _ (c .before .if3 .left), c .if4 .taken))
     (λ c.
-    rw (eq-eqb _ _ (c .before .before .before .before .if1 .left), sym (c .before .before .before .outside .ensures) ∙ c .before .before .if2 .left, eq-eqb _ _ (c .before .if3 .left), c .if4 .left)))
+    simp (eq-eqb _ _ (c .before .before .before .before .if1 .left), sym (c .before .before .before .outside .ensures) ∙ c .before .before .if2 .left, eq-eqb _ _ (c .before .if3 .left), c .if4 .left)))

@@ -8,7 +8,9 @@ pub hold-bit-spec : {M : Type 1} → statement M
 hold-bit-spec =
     tie.close
     (tie.spec
-    (λ c. rw (le-leb _ _ (c .if1 .taken)))
+    (λ c.
+    let a = c .before .args in
+    rw (le-leb (a .top) (a .address) (c .if1 .taken)))
     (λ c. search needs)
-    (λ c. rw (lt-leb _ _ (c .before .if1 .left), lt-ltb _ _ (c .if2 .taken)))
-    (λ c. rw (lt-leb _ _ (c .before .if1 .left), le-ltb _ _ (c .if2 .left))))
+    (λ c. simp (lt-leb _ _ (c .before .if1 .left), lt-ltb _ _ (c .if2 .taken)))
+    (λ c. simp (lt-leb _ _ (c .before .if1 .left), le-ltb _ _ (c .if2 .left))))

@@ -35,7 +35,9 @@ by-bytes c =
     (at .before .before .before .if1 .left) (λ i. at .before .shared-slice-known2 .given i .fits) (c .last .ok) (c .last .ensures)
 
 wrong-last : tie.Need-returns-4
-wrong-last c = sym (by-bytes (c .before) ∙ simp (ne-eqb _ _ (c .if4 .taken), and-false))
+wrong-last c =
+    let s = c .before .before .before .before .before .before .before .before .before .args .s .now in
+    sym (by-bytes (c .before) ∙ simp (ne-eqb (getD s 5 0) (c .before .last .result) (c .if4 .taken), and-false))
 
 found : tie.Need-returns-5
 found c =
