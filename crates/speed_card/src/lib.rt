@@ -3,7 +3,7 @@ ghost use mathlib.Core.Path.{_≡_};
 ghost use mathlib.Core.List.{[]};
 ghost use Prim.Native.Nat.{_≤_};
 ghost use Rattle.card_model.specs.Step.{answer, takeBlock};
-ghost use Rattle.speed_open.specs.Opened.{opened};
+ghost use Rattle.speed_open.specs.Begun.{begun};
 ghost use Rattle.card_model.specs.Step.{world};
 ghost use Rattle.speed_card.specs.Blocks.{READ, WRITE, right, ran, many, again};
 use card_model::answer::Answer;
@@ -69,7 +69,7 @@ fn give_many(card: Card, block: &[u8], memory: &mut [u8], count: u32) -> u32
 pub extern "C" fn proved_reads(memory: &mut [u8], out: &mut [u8], count: u32) -> u32
     ensures { λ r.
         ⌜ ran (now (memory .exit)) (now (out .exit)) r
-        ≡ many takeBlock count (opened READ (now (memory .entry))) (now (out .entry)) ⌝ }
+        ≡ many takeBlock count (begun READ (now (memory .entry))) (now (out .entry)) ⌝ }
 {
     let card = speed_open::open([0x52, 0, 0, 0, 0, 0xE1], memory);
     take_many(card, memory, out, count)
@@ -80,7 +80,7 @@ pub extern "C" fn proved_reads(memory: &mut [u8], out: &mut [u8], count: u32) ->
 pub extern "C" fn proved_writes(memory: &mut [u8], block: &[u8], count: u32) -> u32
     ensures { λ r.
         ⌜ ran (now (memory .exit)) [] r
-        ≡ many (again (now (block .entry))) count (opened WRITE (now (memory .entry))) [] ⌝ }
+        ≡ many (again (now (block .entry))) count (begun WRITE (now (memory .entry))) [] ⌝ }
 {
     let card = speed_open::open([0x59, 0, 0, 0, 0, 0x03], memory);
     give_many(card, block, memory, count)

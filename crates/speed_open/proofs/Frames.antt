@@ -4,7 +4,7 @@ use mathlib.Core.List.{List}
 use Prim.Native.Nat.{ℕ}
 use Rattle.card_model.specs.Step.{World, world}
 use Rattle.card_call.specs.Seen.{Seen}
-use Rattle.speed_open.specs.Opened.{heard}
+use Rattle.speed_open.specs.Begun.{heard}
 
 abbrev pub worldOf : Seen → World
 worldOf s = world (s .card) (s .memory)

@@ -1,2 +1,2 @@
 -- A card that is brought to tran.
-pub mod Opened
+pub mod Begun

@@ -1,6 +1,6 @@
 // A card that is brought to tran and given a command.
 ghost use mathlib.Core.Path.{_≡_};
-ghost use Rattle.speed_open.specs.Opened.{settings, powered, heard, opened};
+ghost use Rattle.speed_open.specs.Begun.{settings, powered, heard, begun};
 ghost use Rattle.card_model.specs.Step.{world};
 use card_model::card::Card;
 use card_model::settings::Settings;
@@ -47,7 +47,7 @@ fn hear(card: Card, frame: [u8; 6], memory: &mut [u8]) -> Card
 
 // To tran by 55, A41, 2, 3, 7, and then a frame.
 pub fn open(frame: [u8; 6], memory: &mut [u8]) -> Card
-    ensures { λ r. ⌜ world r (now (memory .exit)) ≡ opened frame (now (memory .entry)) ⌝ }
+    ensures { λ r. ⌜ world r (now (memory .exit)) ≡ begun frame (now (memory .entry)) ⌝ }
 {
     let card0 = powered(memory);
     let card1 = hear(card0, [0x77, 0, 0, 0, 0, 0x65], memory);

@@ -25,8 +25,8 @@ abbrev pub heard : World → List ℕ → World
 heard w frame = next w (commandFrame frame (replicate ROOM 0))
 
 -- 55, A41, 2, 3, 7, and the command that opens the transfer
-abbrev pub opened : List ℕ → List ℕ → World
-opened frame memory =
+abbrev pub begun : List ℕ → List ℕ → World
+begun frame memory =
     let w1 = heard (powered memory) (0x77 ∷ 0 ∷ 0 ∷ 0 ∷ 0 ∷ 0x65 ∷ []) in
     let w2 = heard w1 (0x69 ∷ 0 ∷ 0xFF ∷ 0x80 ∷ 0 ∷ 0x85 ∷ []) in
     let w3 = heard w2 (0x42 ∷ 0 ∷ 0 ∷ 0 ∷ 0 ∷ 0x4D ∷ []) in
