@@ -1,10 +1,18 @@
 // The card of the bench.
 ghost use mathlib.Core.Path.{_≡_};
+ghost use lib.ListN.{length, replicate};
 ghost use Rattle.card_model.specs.Step.{start};
 ghost use Rattle.card_model.specs.Bench.{bench};
 use card_model::card::Card;
 use card_model::settings::Settings;
 use reg_cid::cid::Cid;
+
+// Its memory, zero at first.
+pub fn blank() -> [u8; 32768]
+    ensures { λ r. ⌜ (32768 ≡ length r) × (r ≡ replicate 32768 0) ⌝ }
+{
+    [0; 32768]
+}
 
 // 01's card, powered up: 64 blocks, unprotected, no polls, CID zero.
 pub fn bench(memory: &[u8; 32768]) -> Card

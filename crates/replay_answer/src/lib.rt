@@ -15,6 +15,13 @@ use card_model::card::Card;
 use codec::Encoded;
 use replay_write::Kind;
 
+// A session with the card: how much of a line has arrived, and how much of the text is answers.
+pub struct Session {
+    pub card: Card,
+    pub count: usize,
+    pub wrote: usize,
+}
+
 pub struct Replayed {
     pub card: Card,
     // how many bytes of the text were written
@@ -35,12 +42,12 @@ pub fn answer_line(kind: Kind, s: Stepped, out: &[u8], text: &mut [u8]) -> Repla
     }
 }
 
-pub fn block(card: Card, memory: &mut [u8], bytes: [u8; 514], text: &mut [u8]) -> Replayed
+pub fn block(card: Card, memory: &mut [u8], bytes: &[u8], text: &mut [u8]) -> Replayed
     ensures { λ r.
         ⌜ shown r (now (memory .exit)) (now (text .exit))
-        ≡ onText (played Response (stepped card (now (memory .entry)) (blockIn bytes))) (now (text .entry)) ⌝ }
+        ≡ onText (played Response (stepped card (now (memory .entry)) (blockIn (now (bytes .entry))))) (now (text .entry)) ⌝ }
 {
-    let s = card_block_in::block_in(card, &bytes, memory);
+    let s = card_block_in::block_in(card, bytes, memory);
     answer_line(Kind::Response, s, &[], text)
 }
 

@@ -9,7 +9,7 @@ use Rattle.card_model.specs.Step.{World, commandFrame, blockIn, takeBlock, busy
 use Rattle.card_call.specs.Seen.{seen}
 use Rattle.replay_read.specs.Read.{Request, cmd, blk, bareTake, bareOver, unreadable, readLine}
 use Rattle.replay_write.specs.declared.Kind.the-variants.{Response, Block}
-use Rattle.replay_write.specs.Write.{refusal}
+use Rattle.replay_write.specs.Write.{refusal, ROOM}
 use Rattle.replay_answer.specs.Played.{Played, Shown, played, onText}
 
 -- the output buffers are zero before each call, and as long as row 4 asks for
@@ -22,10 +22,6 @@ play w unreadable = record { world = w; text = refusal 1 }
 
 abbrev pub replayed : World → List ℕ → Played
 replayed w line = play w (readLine line)
-
--- the longest line of output: a word, a tab, 1,028 digits, a newline
-abbrev pub ROOM : ℕ
-ROOM = 1033
 
 -- a text that has no room for the longest line is refused before the card is called (row 4)
 unfoldable pub playLine : World → List ℕ → List ℕ → Shown

@@ -45,7 +45,7 @@ pub fn play(card: Card, memory: &mut [u8], line: &[u8], text: &mut [u8]) -> Repl
     let word = input.word;
     match word {
         Word::Cmd => command(card, memory, bytes, text),
-        Word::Blk => block(card, memory, bytes, text),
+        Word::Blk => block(card, memory, &bytes, text),
         Word::Take => take(card, memory, text),
         Word::Over => over(card, memory, text),
         Word::Unreadable => answer_line(Kind::Response, refused(card, 1), &[], text),

@@ -1,17 +1,17 @@
 -- Hex digits, a byte at a time: what a turn of the loop that reads them does.
 use mathlib.Core.Path.{_≡_, refl, sym, ap, ap₂, _∙_}
-use mathlib.Core.Bool.{true, false, _&&_, and-false}
+use mathlib.Core.Bool.{Bool, true, false, cond, _&&_, and-false}
 use mathlib.Core.List.{List, [], _∷_, _++_, append-assoc, append-nil}
-use Prim.Native.Nat.{ℕ, zero, suc, _+_, _*_, _%_, _^_, _<_, _≤_}
+use Prim.Native.Nat.{ℕ, zero, suc, _+_, _*_, _/_, _%_, _^_, _<_, _≤_}
 use native.Mathlib.Numerals.{add-one}
 use native.Mathlib.Omega.{arith}
-use borrow.Author.Tests.{lt-ltb, le-ltb}
+use borrow.Author.Tests.{lt-ltb, le-ltb, eq-eqb, ne-eqb}
 use lib.Bits.{bitOr, or-shifted}
 use lib.Dec.{ltb}
 use lib.ListN.{length, getD, take, drop, set, drop-of-length-le}
 use lib.Pow.{shl-exact}
 use lib.Seq.{drop-cons, take-all, take-suc-set}
-use Rattle.replay_read.specs.Hex.{hex, hexValue, allHex, unhex}
+use Rattle.replay_read.specs.Hex.{hex, hexValue, allHex, unhex, fills}
 
 -- ---- lengths
 
@@ -76,12 +76,49 @@ module _ (digits : List ℕ) (i high low : ℕ) (room : 2 * i + 1 < length digit
       ∙ sym (append-assoc (take i out) (byte ∷ []) (unhex rest))
       ∙ ap (λ (s : List ℕ). s ++ unhex rest) (sym (ap (λ (n : ℕ). take n (set out i byte)) (add-one i) ∙ take-suc-set out i byte ho))
 
-module _ (digits : List ℕ) (i : ℕ) (h : length digits ≤ 2 * i) where
-  pub all-end : allHex (drop (2 * i) digits) ≡ allHex digits → true ≡ allHex digits
-  unfolding allHex
-  all-end inv = rw (drop-of-length-le digits h) at inv
+pub all-end : (digits : List ℕ) (n : ℕ) → length digits ≤ n → allHex (drop n digits) ≡ allHex digits → true ≡ allHex digits
+unfolding allHex
+all-end digits n h inv = rw (drop-of-length-le digits h) at inv
 
-  pub unhex-all : (out : List ℕ) → length out ≤ i → unhex digits ≡ take i out ++ unhex (drop (2 * i) digits) → out ≡ unhex digits
-  unfolding unhex
-  unhex-all out k inv =
-      sym (inv ∙ ap (λ (l : List ℕ). take i out ++ unhex l) (drop-of-length-le digits h) ∙ append-nil (take i out) ∙ take-all i out k)
+pub unhex-all : (digits : List ℕ) (i : ℕ) → length digits ≤ 2 * i → (out : List ℕ) → length out ≤ i
+    → unhex digits ≡ take i out ++ unhex (drop (2 * i) digits) → out ≡ unhex digits
+unfolding unhex
+unhex-all digits i h out k inv =
+    sym (inv ∙ ap (λ (l : List ℕ). take i out ++ unhex l) (drop-of-length-le digits h) ∙ append-nil (take i out) ∙ take-all i out k)
+
+-- ---- digit by digit
+
+module _ (digits : List ℕ) (i v : ℕ) (h : i < length digits) (e : v ≡ hexValue (getD digits i 0)) (inv : allHex (drop i digits) ≡ allHex digits) where
+  one : allHex digits ≡ (ltb v 16 && allHex (drop (i + 1) digits))
+  unfolding allHex
+  one = sym inv ∙ rw (e, add-one i, drop-cons digits i 0 h)
+
+  pub digit-wrong : 15 < v → false ≡ allHex digits
+  digit-wrong w = sym (one ∙ rw (le-ltb v 16 (omega arith)))
+
+  pub digit-more : v ≤ 15 → allHex (drop (i + 1) digits) ≡ allHex digits
+  digit-more w = sym (one ∙ rw (lt-ltb v 16 (omega arith)))
+
+-- ---- digits of just so many bytes
+
+pub two-each : (n m : ℕ) → n / 2 ≡ m → n % 2 ≡ 0 → n ≡ 2 * m
+two-each n m h e = omega arith
+
+module _ (digits out : List ℕ) where
+  fills-size : (length digits ≡ 2 * length out → ⊥) → false ≡ fills digits out
+  fills-size n = sym (rw (ne-eqb (length digits) (2 * length out) n))
+
+  pub fills-half : (length digits / 2 ≡ length out → ⊥) → false ≡ fills digits out
+  fills-half n = fills-size (λ e. n (omega arith))
+
+  pub fills-odd : (length digits % 2 ≡ 0 → ⊥) → false ≡ fills digits out
+  fills-odd n = fills-size (λ e. n (omega arith))
+
+  pub fills-wrong : false ≡ allHex digits → false ≡ fills digits out
+  fills-wrong a = sym (rw (sym a, and-false))
+
+  pub fills-right : (after : List ℕ) (r : Bool) → length digits ≡ 2 * length out → true ≡ allHex digits → r ≡ allHex digits
+      → (r ≡ true → after ≡ unhex digits) → (r ≡ fills digits out) × (after ≡ cond r (unhex digits) out)
+  fills-right after r h a e read =
+      let yes : r ≡ true = e ∙ sym a in
+      (yes ∙ sym (rw (eq-eqb (length digits) (2 * length out) h, sym a)), read yes ∙ sym (rw yes refl))

@@ -1,4 +1,4 @@
--- Two lists compared element by element.
+-- Lists compared element by element, and parts of them.
 use mathlib.Core.Path.{_≡_, refl, sym, ap, _∙_}
 use mathlib.Core.Bool.{Bool, true, false, _&&_, and-false, false≢true}
 use mathlib.Core.List.{List, [], _∷_}
@@ -8,8 +8,9 @@ use native.Mathlib.Numerals.{add-one}
 use native.Mathlib.Omega.{arith}
 use borrow.Author.Tests.{eq-eqb, ne-eqb}
 use lib.Dec.{eqb}
-use lib.ListN.{length, getD, take, drop, length-take, drop-of-length-le}
-use lib.Seq.{drop-cons}
+use lib.ListN.{length, getD, take, drop, set, length-take, length-drop, drop-of-length-le}
+use lib.Seq.{drop-cons, take-all}
+use Rattle.io.specs.Counts.{Counts}
 use Rattle.card_model.specs.Soundness.{equal}
 
 -- lists of two lengths differ
@@ -59,3 +60,12 @@ too-short line word h = sym (lengths-differ _ _ (λ e. omega (arith, length-take
 
 pub front-equal : (line word : List ℕ) (r : Bool) → r ≡ equal (take (length word - 0) line) word → r ≡ equal (take (length word) line) word
 front-equal line word r e = rw (sub-zero (length word)) at e
+
+-- what is behind the front
+pub all-behind : (n : ℕ) (s : List ℕ) → take (length s - n) (drop n s) ≡ drop n s
+all-behind n s = take-all (length s - n) (drop n s) (omega (arith, length-drop n s))
+
+-- a byte that was put first is one of the list's
+pub counts-one : (s : List ℕ) (byte : ℕ) → (length s ≡ 0 → ⊥) → Counts 1 (set s 0 byte)
+counts-one [] byte n = absurd (n refl)
+counts-one (x ∷ s) byte n = (omega arith, refl)

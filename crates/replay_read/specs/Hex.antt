@@ -2,7 +2,8 @@
 use mathlib.Core.Bool.{Bool, true, cond, _&&_}
 use mathlib.Core.List.{List, [], _∷_}
 use Prim.Native.Nat.{ℕ, _+_, _-_, _*_, _/_, _%_}
-use lib.Dec.{leb, ltb}
+use lib.Dec.{eqb, leb, ltb}
+use lib.ListN.{length}
 
 -- the character of 0 to 15
 abbrev pub hexDigit : ℕ → ℕ
@@ -25,3 +26,7 @@ unfoldable pub unhex : List ℕ → List ℕ
 unhex [] = []
 unhex (h ∷ []) = []
 unhex (h ∷ l ∷ s) = (hexValue h * 16 + hexValue l) ∷ unhex s
+
+-- digits that are just so many bytes
+abbrev pub fills : List ℕ → List ℕ → Bool
+fills digits bytes = eqb (length digits) (2 * length bytes) && allHex digits

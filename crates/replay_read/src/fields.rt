@@ -9,7 +9,7 @@ use crate::Input;
 use crate::Word;
 use crate::hex::unhex_into;
 
-pub(crate) fn equals(a: &[u8], b: &[u8]) -> bool
+pub fn equals(a: &[u8], b: &[u8]) -> bool
     ensures { λ r. ⌜ r ≡ equal (now (a .entry)) (now (b .entry)) ⌝ }
 {
     if a.len() != b.len() {
@@ -25,7 +25,7 @@ pub(crate) fn equals(a: &[u8], b: &[u8]) -> bool
     true
 }
 
-pub(crate) fn begins(line: &[u8], word: &[u8]) -> bool
+pub fn begins(line: &[u8], word: &[u8]) -> bool
     ensures { λ r. ⌜ r ≡ equal (take (length (now (word .entry))) (now (line .entry))) (now (word .entry)) ⌝ }
 {
     let n = word.len();

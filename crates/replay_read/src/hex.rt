@@ -1,9 +1,9 @@
 // Capital hex digits, two a byte.
 ghost use mathlib.Core.Path.{_≡_};
-ghost use mathlib.Core.Bool.{true};
+ghost use mathlib.Core.Bool.{true, cond};
 ghost use Prim.Native.Nat.{_*_, _≤_};
 ghost use lib.ListN.{length};
-ghost use Rattle.replay_read.specs.Hex.{hexValue, allHex, unhex};
+ghost use Rattle.replay_read.specs.Hex.{hexValue, allHex, unhex, fills};
 
 // The value of a digit; 16 where it is none.
 fn value(c: u8) -> u8
@@ -44,4 +44,35 @@ pub(crate) fn unhex_into(digits: &[u8], out: &mut [u8]) -> bool
         i += 1;
     }
     true
+}
+
+fn all_hex(digits: &[u8]) -> bool
+    ensures { λ r. ⌜ r ≡ allHex (now (digits .entry)) ⌝ }
+{
+    let mut i: usize = 0;
+    while i < digits.len() {
+        if value(digits[i]) > 15 {
+            return false;
+        }
+        i += 1;
+    }
+    true
+}
+
+// Whether the digits are those of just so many bytes; where they are not, `out` stays as it was.
+pub fn unhex(digits: &[u8], out: &mut [u8]) -> bool
+    ensures { λ r.
+        ⌜ (r ≡ fills (now (digits .entry)) (now (out .entry)))
+        × (now (out .exit) ≡ cond r (unhex (now (digits .entry))) (now (out .entry))) ⌝ }
+{
+    if digits.len() / 2 != out.len() {
+        return false;
+    }
+    if digits.len() % 2 != 0 {
+        return false;
+    }
+    if all_hex(digits) {
+        return unhex_into(digits, out);
+    }
+    false
 }

@@ -1,11 +1,12 @@
 // The replay program's lines of input: how they are collected, and what is read.
 ghost use mathlib.Core.Path.{_≡_};
-ghost use lib.ListN.{take};
+ghost use lib.ListN.{take, drop};
+ghost use Rattle.io.specs.Counts.{Counts};
 ghost use Rattle.replay_read.specs.Read.{readLine, held};
 ghost use Rattle.replay_read.specs.Keep.{keepByte, collected};
 
-mod fields;
-mod hex;
+pub mod fields;
+pub mod hex;
 
 // The first word of a line.
 pub enum Word {
@@ -51,6 +52,16 @@ pub fn front(s: &[u8], n: usize) -> &[u8]
     s
 }
 
+// What is behind the first `n` bytes.
+pub fn behind(s: &[u8], n: usize) -> &[u8]
+    ensures { λ r. ⌜ now r ≡ drop n (now (s .entry)) ⌝ }
+{
+    if n < s.len() {
+        return &s[n..];
+    }
+    &s[0..0]
+}
+
 // One byte more of a line that is being collected; a full buffer stays as it is.
 pub fn keep(line: &mut [u8], count: usize, byte: u8) -> usize
     ensures { λ r. ⌜ collected (now (line .exit)) r ≡ keepByte (collected (now (line .entry)) count) byte ⌝ }
@@ -60,4 +71,24 @@ pub fn keep(line: &mut [u8], count: usize, byte: u8) -> usize
         return count + 1;
     }
     count
+}
+
+// Fills a chunk from a file: how many bytes, 0 at the end. A last line of `count` bytes that has no newline gets one there.
+// What is read is not part of a contract.
+pub fn fill(fd: i32, chunk: &mut [u8], count: usize) -> usize
+    ensures { λ r. ⌜ Counts r (now (chunk .exit)) ⌝ }
+{
+    let got = libc::read(fd, chunk);
+    let n = io::count(got, chunk);
+    if n > 0 {
+        return n;
+    }
+    if count == 0 {
+        return 0;
+    }
+    if chunk.len() == 0 {
+        return 0;
+    }
+    chunk[0] = 10;
+    1
 }

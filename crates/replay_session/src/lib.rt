@@ -1,70 +1,53 @@
-// A session: each line of the input is played as soon as it has arrived, and its answer written to standard output.
+// A session: each line of the input is played as soon as it has arrived, and its answer put behind the others in a text.
 ghost use mathlib.Core.Path.{_≡_};
-ghost use Rattle.card_model.specs.Step.{world};
-ghost use Rattle.replay_line.specs.Replay.{replayed};
-ghost use Rattle.replay_session.specs.Session.{heard, heardAll, session};
-use card_model::card::Card;
-use codec::Encoded;
+ghost use Rattle.replay_session.specs.Session.{lineEnded, heardAll, session};
+use replay_answer::Session;
 use replay_line::play;
 use replay_read::front;
 use replay_read::keep;
+use replay_write::end;
+use replay_write::place;
 
-// The card, and how much of a line has arrived.
-pub struct Session {
-    pub card: Card,
-    pub count: usize,
-}
-
-// A line, played on the card. What is written is not part of a contract.
-pub fn answer(card: Card, memory: &mut [u8], line: &[u8]) -> Card
+// The line that has arrived, played on the card.
+pub fn end_line(s: Session, memory: &mut [u8], line: &[u8], text: &mut [u8]) -> Session
     ensures { λ r.
-        ⌜ world r (now (memory .exit)) ≡ replayed (world card (now (memory .entry))) (now (line .entry)) .world ⌝ }
+        ⌜ session r (now (memory .exit)) (now (line .entry)) (now (text .exit))
+        ≡ lineEnded (session s (now (memory .entry)) (now (line .entry)) (now (text .entry))) ⌝ }
 {
-    let mut text: [u8; 1033] = [0; 1033];
-    let r = play(card, memory, line, &mut text);
-    let wrote = r.wrote;
+    let bytes = text.len();
+    let at = place(text, s.wrote);
+    let r = play(s.card, memory, front(line, s.count), &mut text[at..]);
     let next = r.card;
-    match wrote {
-        Encoded::Wrote(n) => {
-            io::write_all(1, front(&text, n));
-        }
-        Encoded::Refused(_) => {}
-    }
-    next
-}
-
-// One byte: a newline ends a line, and others are kept.
-pub fn hear(s: Session, memory: &mut [u8], line: &mut [u8], byte: u8) -> Session
-    ensures { λ r.
-        ⌜ session r (now (memory .exit)) (now (line .exit))
-        ≡ heard (session s (now (memory .entry)) (now (line .entry))) byte ⌝ }
-{
-    let card = s.card;
-    let count = s.count;
-    if byte == 10 {
-        let next = answer(card, memory, front(line, count));
-        return Session {
-            card: next,
-            count: 0,
-        };
-    }
+    let wrote = r.wrote;
     Session {
-        card: card,
-        count: keep(line, count, byte),
+        card: next,
+        count: 0,
+        wrote: end(at, wrote, bytes),
     }
 }
 
-// All bytes of a chunk.
-pub fn hear_all(s: Session, memory: &mut [u8], line: &mut [u8], chunk: &[u8]) -> Session
+// All bytes of a chunk: a newline ends a line, and others are kept.
+pub fn hear_all(
+    s: Session,
+    memory: &mut [u8],
+    line: &mut [u8],
+    text: &mut [u8],
+    chunk: &[u8],
+) -> Session
     ensures { λ r.
-        ⌜ session r (now (memory .exit)) (now (line .exit))
-        ≡ heardAll (session s (now (memory .entry)) (now (line .entry))) (now (chunk .entry)) ⌝ }
+        ⌜ session r (now (memory .exit)) (now (line .exit)) (now (text .exit))
+        ≡ heardAll (session s (now (memory .entry)) (now (line .entry)) (now (text .entry))) (now (chunk .entry)) ⌝ }
 {
     let mut now = s;
     let mut i: usize = 0;
     while i < chunk.len() {
-        now = hear(now, memory, line, chunk[i]);
+        let byte = chunk[i];
         i += 1;
+        if byte == 10 {
+            now = end_line(now, memory, line, text);
+            continue;
+        }
+        now.count = keep(line, now.count, byte);
     }
     now
 }

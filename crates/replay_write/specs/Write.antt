@@ -2,19 +2,20 @@
 use mathlib.Core.Bool.{cond}
 use mathlib.Core.List.{List, [], _∷_, _++_}
 use Prim.Native.Nat.{ℕ, _+_, _/_, _%_}
-use lib.Dec.{eqb, ltb}
+use lib.Dec.{eqb, leb, ltb}
 use lib.ListN.{length, take}
 use Rattle.codec.specs.Answer.{Outcome, done, refused, BUFFER, Encoding, refuse, emit}
 use Rattle.card_model.specs.Data.{ACCEPTED}
 use Rattle.card_model.specs.Step.{Reply, silent, sent, answered, over}
 use Rattle.replay_read.specs.Hex.{hex}
 use Rattle.replay_write.specs.declared.Kind.{Kind}
-use Rattle.replay_write.specs.declared.Kind.the-variants.{Response, Block}
+use Rattle.replay_write.specs.declared.Kind.the-variants.{Response, Block, Memory}
 
--- what is sent is a response, or a data block
+-- what is sent is a response, a data block, or a block of the program's memory
 abbrev pub word : Kind → List ℕ
 word Response = 114 ∷ 115 ∷ 112 ∷ 9 ∷ []
 word Block = 98 ∷ 108 ∷ 107 ∷ 9 ∷ []
+word Memory = 109 ∷ 101 ∷ 109 ∷ 9 ∷ []
 
 abbrev pub NONE : List ℕ
 NONE = 110 ∷ 111 ∷ 110 ∷ 101 ∷ 10 ∷ []
@@ -48,3 +49,19 @@ fitted line text = cond (ltb (length text) (length line)) (refuse BUFFER text) (
 
 abbrev pub writeLine : Kind → Outcome Reply → List ℕ → List ℕ → Encoding
 writeLine kind a out text = fitted (written kind a out) text
+
+-- ---- lines that are gathered in one text
+
+-- the longest line of output: a word, a tab, 1,028 digits, a newline
+abbrev pub ROOM : ℕ
+ROOM = 1033
+
+-- how many bytes were written; a refusal wrote none
+abbrev pub size : Outcome ℕ → ℕ
+size (done n) = n
+size (refused k) = 0
+
+-- where the next line goes, in a text of so many bytes whose first `count` are lines: behind them, or to the front where the
+-- longest line would not fit there
+abbrev pub place : ℕ → ℕ → ℕ
+place bytes count = cond (leb (count + ROOM) bytes) count 0

@@ -1,8 +1,11 @@
 // The replay program's lines of output.
 ghost use mathlib.Core.Path.{_≡_};
-ghost use Rattle.codec.specs.Answer.{encoding};
+ghost use Prim.Native.Nat.{_+_, _≤_, min};
+ghost use lib.Dec.{leb};
+ghost use lib.ListN.{length, replicate};
+ghost use Rattle.codec.specs.Answer.{encoded, encoding};
 ghost use Rattle.card_model.specs.Step as Step;
-ghost use Rattle.replay_write.specs.Write.{writeLine};
+ghost use Rattle.replay_write.specs.Write.{writeLine, ROOM, size, place};
 
 mod hex;
 mod text;
@@ -14,10 +17,11 @@ use text::bytes_line;
 use text::put;
 use text::refusal;
 
-// What is sent is a response, or a data block.
+// What is sent is a response, a data block, or a block of the program's memory.
 pub enum Kind {
     Response,
     Block,
+    Memory,
 }
 
 // The line of an answer, whose bytes are in `out`; refused with 4 where the text has no room for it.
@@ -32,4 +36,62 @@ pub fn write(kind: Kind, answer: Answer, out: &[u8], text: &mut [u8]) -> Encoded
         Answer::Over => put(b"none\n", text),
         Answer::Refused(number) => refusal(number, text),
     }
+}
+
+// The longest line of output, with its newline.
+pub const ROOM: usize = 1033;
+
+// Where a text ends, of so many bytes, with the line that was written at `at`.
+pub fn end(at: usize, e: Encoded, bytes: usize) -> usize
+    ensures { λ r. ⌜ r ≡ min (at + size (encoded e)) bytes ⌝ }
+{
+    match e {
+        Encoded::Wrote(n) => sum(at, n, bytes),
+        Encoded::Refused(_) => sum(at, 0, bytes),
+    }
+}
+
+// A sum, and no more than `most`.
+fn sum(a: usize, b: usize, most: usize) -> usize
+    ensures { λ r. ⌜ r ≡ min (a + b) most ⌝ }
+{
+    if most <= a {
+        return most;
+    }
+    if most - a <= b {
+        return most;
+    }
+    a + b
+}
+
+// The longest line fits behind the first `count` of so many bytes.
+fn room_behind(count: usize, bytes: usize) -> bool
+    ensures { λ r. ⌜ r ≡ leb (count + ROOM) bytes ⌝ }
+{
+    if bytes < count {
+        return false;
+    }
+    if bytes - count < ROOM {
+        return false;
+    }
+    true
+}
+
+// Where the next line goes in a text whose first `count` bytes are lines. Where the room behind them is short they are written
+// to standard output first, which no contract speaks of.
+pub fn place(text: &[u8], count: usize) -> usize
+    ensures { λ r. ⌜ (r ≡ place (length (now (text .entry))) count) × (r ≤ length (now (text .entry))) ⌝ }
+{
+    if room_behind(count, text.len()) {
+        return count;
+    }
+    io::write_all(1, front(text, count));
+    0
+}
+
+// A text with room for the answers to any 4,096 bytes of input, which are the longest where all are `take`s.
+pub fn text_buffer() -> [u8; 1048576]
+    ensures { λ r. ⌜ (1048576 ≡ length r) × (r ≡ replicate 1048576 0) ⌝ }
+{
+    [0; 1048576]
 }

@@ -43,10 +43,11 @@ fn tag(kind: Kind) -> [u8; 4]
     match kind {
         Kind::Response => [b'r', b's', b'p', b'\t'],
         Kind::Block => [b'b', b'l', b'k', b'\t'],
+        Kind::Memory => [b'm', b'e', b'm', b'\t'],
     }
 }
 
-// A response or a block, in hex.
+// A word and bytes, in hex.
 pub(crate) fn bytes_line(kind: Kind, bytes: &[u8], text: &mut [u8]) -> Encoded
     ensures { λ r. ⌜ encoding r (now (text .exit)) ≡ fitted (word kind ++ (hex (now (bytes .entry)) ++ (10 ∷ []))) (now (text .entry)) ⌝ }
 {

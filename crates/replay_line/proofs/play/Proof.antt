@@ -14,6 +14,7 @@ play-spec =
     (λ c. search needs)
     (λ c κs. search needs)
     (λ c. search needs)
+    (λ c. search needs)
     (λ c κs. search needs)
     (λ c. search needs)
     (λ c κs. search needs)
@@ -31,8 +32,8 @@ play-spec =
     (λ c. search needs)
     (λ c. search needs)
     (λ c.
-    let read = c .before .before .before .before .before .before .before .before .before .before .read in
-    by-word _ _ _ (read .result) (c .before .before .before .before .before .before .before .before .before .before .before .if1 .left) (read .ensures) _ _ (blk-line _ (read .result) (c .before .before .before .before .before .before .before .enum-told2 .given .1)) (c .before .before .before .before .block .ensures))
+    let read = c .before .before .before .before .before .before .before .before .before .before .before .read in
+    by-word _ _ _ (read .result) (c .before .before .before .before .before .before .before .before .before .before .before .before .if1 .left) (read .ensures) _ _ (blk-line _ (read .result) (c .before .before .before .before .before .before .before .before .enum-told2 .given .1)) (c .before .before .before .before .block .ensures))
     (λ c. search needs)
     (λ c. search needs)
     (λ c.

@@ -6,11 +6,11 @@ use Rattle.replay_run.proofs.run.Statement.{statement}
 use Rattle.replay_run.proofs.run.Tie as tie
 
 abbrev Inv-loop : tie.InvT-loop
-Inv-loop fd memory₀ line₀ chunk₀ s₀ turns₀ memory line chunk s turns =
-    (length memory ≡ 32768) × (length line ≡ 1033) × (length chunk ≡ 4096)
+Inv-loop fd memory₀ line₀ text₀ chunk₀ s₀ turns₀ memory line text chunk s turns =
+    (length memory ≡ 32768) × (length line ≡ 1033) × (length text ≡ 1048576) × (length chunk ≡ 4096)
 
 abbrev μ-loop : tie.MeasureT-loop
-μ-loop fd memory₀ line₀ chunk₀ s₀ turns₀ memory line chunk s turns = turns
+μ-loop fd memory₀ line₀ text₀ chunk₀ s₀ turns₀ memory line text chunk s turns = turns
 
 pub run-spec : {M : Type 1} → statement M
 run-spec =
@@ -18,13 +18,8 @@ run-spec =
     (tie.spec Inv-loop μ-loop
     (λ c κs. search needs)
     (λ c κs. search needs)
-    (λ c. search needs)
-    (λ c. search needs)
     (λ c κs. search needs)
-    (λ c. search needs)
     (λ c κs. search needs)
-    (λ c. search needs)
-    (λ c. search needs)
     (λ c. search needs)
     (λ c. search needs)
     (λ c κs. search needs)
@@ -34,6 +29,11 @@ run-spec =
     (λ c. search needs)
     (λ c. search needs)
     (λ c κs. search needs)
+    (λ c. search needs)
     (λ c κs. search needs)
+    (λ c κs. search needs)
+    (λ c. search needs)
+    (λ c. search needs)
+    (λ c. search needs)
     (λ c. search needs)
     (λ c. search needs))

@@ -65,6 +65,6 @@ unhex-into-spec =
     again
     (λ c. search needs)
     (λ c. (
-      all-end _ (c .before .loop .i) (omega arith) (c .before .loop .inv .2),
+      all-end _ (2 * c .before .loop .i) (omega arith) (c .before .loop .inv .2),
       λ _. unhex-all _ (c .before .loop .i) (omega arith) _ (omega arith) (c .before .loop .inv .3),
     )))
