@@ -1,7 +1,7 @@
 //! Unit checks: `rustc --test main.rs`. Vectors are the samples of the standard and computed ones.
 
 use crate::card::*;
-use crate::Bench;
+use crate::lines::Bench;
 
 fn settings(block_count: u32) -> Settings {
     Settings {
@@ -390,7 +390,7 @@ fn unreached_records() {
 }
 
 fn replay(input: &[u8]) -> Vec<u8> {
-    let mut bench = Bench::new();
+    let mut bench = Bench::replay();
     let lines = input.strip_suffix(b"\n").unwrap_or(input).split(|&byte| byte == b'\n');
     lines.flat_map(|line| bench.answer(line).to_vec()).collect()
 }
@@ -455,7 +455,7 @@ cmd\t770000000065\trsp\t37004001204F
 cmd\t690000000000\tnone
 cmd\t770000000065\trsp\t370080012009
 cmd\t6900FF800085\trsp\t3F80FF8000FF";
-    let mut bench = Bench::new();
+    let mut bench = Bench::replay();
     for line in nine.lines() {
         let (word, rest) = line.split_once('\t').unwrap();
         let (digits, answer) = rest.split_once('\t').unwrap();

@@ -1,4 +1,4 @@
-//! Turns a readable description of a history (standard input) into replay lines.
+//! Turns a readable description of a history (standard input) into lines of replay or the console.
 //!
 //! ```text
 //! 17 7E00              command 17, argument in hex (0 if left out); A41 is 41
@@ -8,6 +8,10 @@
 //! bad 9 5A             the same packet with bit 9 flipped
 //! take                 also: over
 //! 66 * take            sixty-six times
+//! power 64 2 0 1       block count and start polls in decimal, CID as 30 digits or 0, flags
+//! mem 7                block 7 of the console's memory, in decimal
+//! sized 16 5A          16 bytes 5Ah, no check
+//! cut 513 5A           512 bytes 5Ah and their check, cut to 513 bytes or filled up with zeros
 //! raw cmd\t4000        this line; \t \r \0 \xFF and \\ stand for bytes
 //! fill 1034 blk\t      this line, filled up with zeros to 1,034 bytes
 //! end                  the newline of the line before is left out
@@ -60,6 +64,16 @@ fn replay_line(item: &str) -> Option<Vec<u8>> {
         ["take" | "over"] => Some(item.into()),
         ["block", byte] => Some(line("blk", &packet(byte)?)),
         ["bad", bits, byte] => Some(line("blk", &flip(packet(byte)?, bits)?)),
+        ["power", count, polls, cid, flags] => power([count, polls, cid, flags]),
+        ["mem", block] => Some(line("mem", &block.parse::<u32>().ok()?.to_be_bytes())),
+        ["sized", size, byte] => {
+            Some(line("blk", &vec![u8::from_str_radix(byte, 16).ok()?; size.parse().ok()?]))
+        }
+        ["cut", size, byte] => {
+            let mut bytes = packet(byte)?.to_vec();
+            bytes.resize(size.parse().ok()?, 0);
+            Some(line("blk", &bytes))
+        }
         ["copy", bits, index] => Some(line("cmd", &flip(frame(index, "0")?, bits)?)),
         ["copy", bits, index, argument] => Some(line("cmd", &flip(frame(index, argument)?, bits)?)),
         [index] => Some(line("cmd", &frame(index, "0")?)),
@@ -74,6 +88,14 @@ fn frame(index: &str, argument: &str) -> Option<[u8; 6]> {
     let mut frame = [0x40 | index, a, b, c, d, 0];
     frame[5] = crc7(&frame[..5]) << 1 | 1;
     Some(frame)
+}
+
+fn power([count, polls, cid, flags]: [&str; 4]) -> Option<Vec<u8>> {
+    let count: u32 = count.parse().ok()?;
+    let polls: u8 = polls.parse().ok()?;
+    let cid = u128::from_str_radix(cid, 16).ok().filter(|_| cid == "0" || cid.len() == 30)?;
+    let flags = u8::from_str_radix(flags, 16).ok()?;
+    Some(format!("power\t{count:08X}\t{polls:02X}\t{cid:030X}\t{flags:02X}").into_bytes())
 }
 
 fn packet(byte: &str) -> Option<[u8; PACKET]> {

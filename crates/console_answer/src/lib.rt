@@ -1,0 +1,30 @@
+// The console's own calls of the card: a power-up with any settings, and a block of any size.
+use card_call::refused;
+use card_model::card::Card;
+use console_memory::lent;
+use console_read::NumberRead;
+use console_read::SettingsRead;
+use replay_answer::Replayed;
+use replay_answer::answer_line;
+use replay_read::front;
+use replay_write::Kind;
+
+pub fn power(card: Card, memory: &[u8], fields: &[u8], text: &mut [u8]) -> Replayed {
+    match console_read::settings(fields) {
+        SettingsRead::Read(settings) => {
+            let n = lent(settings.blocks, memory.len());
+            let s = card_power::power_up(card, settings, front(memory, n));
+            answer_line(Kind::Response, s, &[], text)
+        }
+        SettingsRead::Unreadable => answer_line(Kind::Response, refused(card, 1), &[], text),
+    }
+}
+
+// A block of up to 520 bytes; the card judges its size.
+pub fn block(card: Card, memory: &mut [u8], digits: &[u8], text: &mut [u8]) -> Replayed {
+    let mut bytes: [u8; 520] = [0; 520];
+    match console_read::block(digits, &mut bytes) {
+        NumberRead::Read(n) => replay_answer::block(card, memory, front(&bytes, n), text),
+        NumberRead::Unreadable => answer_line(Kind::Response, refused(card, 1), &[], text),
+    }
+}
