@@ -3,6 +3,8 @@ use card_model::settings::Settings;
 use codec::copy;
 use codec::word32;
 use reg_cid::cid::CidRead;
+use replay_read::behind;
+use replay_read::front;
 use replay_read::hex::unhex;
 
 // Settings, or a line that cannot be read.
@@ -46,31 +48,29 @@ fn are_tabs(a: u8, b: u8, c: u8) -> bool {
     a == b'\t' && b == b'\t' && c == b'\t'
 }
 
+// A field of so many digits.
+fn field(fields: &[u8], at: usize, digits: usize, out: &mut [u8]) -> bool {
+    unhex(front(behind(fields, at), digits), out)
+}
+
 // What follows the word of a power-up: block count, start polls, CID and flags, in 8, 2, 30 and 2 digits parted by tabs.
 pub fn settings(fields: &[u8]) -> SettingsRead {
     if fields.len() != 45 {
-        return SettingsRead::Unreadable;
-    }
-    if !are_tabs(fields[8], fields[11], fields[42]) {
         return SettingsRead::Unreadable;
     }
     let mut blocks: [u8; 4] = [0; 4];
     let mut polls: [u8; 1] = [0; 1];
     let mut content: [u8; 15] = [0; 15];
     let mut flags: [u8; 1] = [0; 1];
-    if !unhex(&fields[0..8], &mut blocks) {
-        return SettingsRead::Unreadable;
+    let parted = are_tabs(fields[8], fields[11], fields[42]);
+    let first = field(fields, 0, 8, &mut blocks);
+    let second = field(fields, 9, 2, &mut polls);
+    let third = field(fields, 12, 30, &mut content);
+    let fourth = field(fields, 43, 2, &mut flags);
+    if parted & first & second & third & fourth {
+        return settings_of(word32(&blocks), polls[0], content, flags[0]);
     }
-    if !unhex(&fields[9..11], &mut polls) {
-        return SettingsRead::Unreadable;
-    }
-    if !unhex(&fields[12..42], &mut content) {
-        return SettingsRead::Unreadable;
-    }
-    if !unhex(&fields[43..45], &mut flags) {
-        return SettingsRead::Unreadable;
-    }
-    settings_of(word32(&blocks), polls[0], content, flags[0])
+    SettingsRead::Unreadable
 }
 
 // What follows the word of a block of memory: 8 digits.
