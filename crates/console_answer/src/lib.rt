@@ -1,11 +1,11 @@
 // The console's own calls of the card: a power-up with any settings, and a block of any size.
-use card_call::refused;
 use card_model::card::Card;
 use console_memory::lent;
 use console_read::NumberRead;
 use console_read::SettingsRead;
 use replay_answer::Replayed;
 use replay_answer::answer_line;
+use replay_answer::unreadable;
 use replay_read::front;
 use replay_write::Kind;
 
@@ -16,7 +16,7 @@ pub fn power(card: Card, memory: &[u8], fields: &[u8], text: &mut [u8]) -> Repla
             let s = card_power::power_up(card, settings, front(memory, n));
             answer_line(Kind::Response, s, &[], text)
         }
-        SettingsRead::Unreadable => answer_line(Kind::Response, refused(card, 1), &[], text),
+        SettingsRead::Unreadable => unreadable(card, text),
     }
 }
 
@@ -25,6 +25,6 @@ pub fn block(card: Card, memory: &mut [u8], digits: &[u8], text: &mut [u8]) -> R
     let mut bytes: [u8; 520] = [0; 520];
     match console_read::block(digits, &mut bytes) {
         NumberRead::Read(n) => replay_answer::block(card, memory, front(&bytes, n), text),
-        NumberRead::Unreadable => answer_line(Kind::Response, refused(card, 1), &[], text),
+        NumberRead::Unreadable => unreadable(card, text),
     }
 }

@@ -3,14 +3,16 @@ ghost use mathlib.Core.Path.{_≡_};
 ghost use mathlib.Core.List.{List};
 ghost use Prim.Native.Nat.{ℕ};
 ghost use lib.ListN.{replicate};
-ghost use Rattle.card_model.specs.Step.{blockIn, takeBlock, busyOver};
+ghost use Rattle.card_model.specs.Step.{world, blockIn, takeBlock, busyOver};
 ghost use Rattle.card_call.specs.Seen.{returned, stepped};
 ghost use Rattle.replay_write.specs.declared.Kind.the-variants.{Response, Block};
+ghost use Rattle.replay_write.specs.Write.{refusal};
 ghost use Rattle.replay_answer.specs.Played.{played, shown, onText};
 
 pub mod bench;
 
 use card_call::Stepped;
+use card_call::refused;
 use card_model::card::Card;
 use codec::Encoded;
 use replay_write::Kind;
@@ -40,6 +42,15 @@ pub fn answer_line(kind: Kind, s: Stepped, out: &[u8], text: &mut [u8]) -> Repla
         card: card,
         wrote: replay_write::write(kind, answer, out, text),
     }
+}
+
+// A line that cannot be read calls nothing.
+pub fn unreadable(card: Card, text: &mut [u8]) -> Replayed
+    ensures { λ r.
+        ⌜ ((memory : List ℕ)
+        → shown r memory (now (text .exit)) ≡ onText (record { world = world card memory; text = refusal 1 }) (now (text .entry))) ⌝ }
+{
+    answer_line(Kind::Response, refused(card, 1), &[], text)
 }
 
 pub fn block(card: Card, memory: &mut [u8], bytes: &[u8], text: &mut [u8]) -> Replayed

@@ -1,30 +1,20 @@
 -- The call that a line asks for.
 use mathlib.Core.Path.{_≡_, sym, ap, _∙_}
-use mathlib.Core.List.{List, []}
+use mathlib.Core.List.{List}
 use Prim.Native.Nat.{ℕ, _<_, _≤_}
 use borrow.Author.Tests.{le-ltb, lt-ltb}
 use lib.ListN.{length, take, replicate}
 use Rattle.codec.specs.Answer.{BUFFER, refuse}
 use Rattle.card_model.specs.Step.{World, step, commandFrame, blockIn, takeBlock, busyOver}
-use Rattle.card_model.specs.declared.answer.Answer.the-variants.{Refused}
-use Rattle.card_model.specs.declared.card.Card.{Card}
-use Rattle.card_call.specs.declared.Stepped.{Stepped}
-use Rattle.card_call.specs.Seen.{returned, seen}
+use Rattle.card_call.specs.Seen.{seen}
 use Rattle.replay_read.specs.declared.Input.{Input}
 use Rattle.replay_read.specs.declared.Word.the-variants.{Cmd, Blk, Take, Over, Unreadable}
 use Rattle.replay_read.specs.Read.{Request, readLine, held, requestOf}
 use Rattle.replay_read.proofs.Laws.{read-laws}
 use Rattle.replay_write.specs.declared.Kind.the-variants.{Response, Block}
-use Rattle.replay_write.specs.Write.{written, refusal}
+use Rattle.replay_write.specs.Write.{refusal}
 use Rattle.replay_answer.specs.Played.{Played, Shown, played, onText}
 use Rattle.replay_line.specs.Replay.{play, playLine}
-
--- a line that cannot be read
-pub refused-by : (card : Card) (memory text : List ℕ) (s : Stepped) (a : Shown)
-    → a ≡ onText (played Response (returned s memory [])) text → s ≡ record { answer = Refused 1; card = card }
-    → a ≡ onText (record { world = record { card = card; memory = memory }; text = refusal 1 }) text
-unfolding written
-refused-by card memory text s a p q = p ∙ ap (λ (y : Stepped). onText (played Response (returned y memory [])) text) q
 
 module _ (w : World) (line text : List ℕ) where
   pub no-room : length text < 1033 → playLine w line text ≡ record { line = refuse BUFFER text; world = w }

@@ -6,7 +6,6 @@ ghost use Rattle.card_call.specs.Seen.{stepped};
 ghost use Rattle.replay_write.specs.declared.Kind.the-variants.{Response};
 ghost use Rattle.replay_answer.specs.Played.{played, shown, onText};
 ghost use Rattle.replay_line.specs.Replay.{playLine};
-use card_call::refused;
 use card_model::card::Card;
 use codec::Encoded;
 use replay_answer::Replayed;
@@ -14,6 +13,7 @@ use replay_answer::answer_line;
 use replay_answer::block;
 use replay_answer::over;
 use replay_answer::take;
+use replay_answer::unreadable;
 use replay_read::Word;
 use replay_write::Kind;
 
@@ -48,6 +48,6 @@ pub fn play(card: Card, memory: &mut [u8], line: &[u8], text: &mut [u8]) -> Repl
         Word::Blk => block(card, memory, &bytes, text),
         Word::Take => take(card, memory, text),
         Word::Over => over(card, memory, text),
-        Word::Unreadable => answer_line(Kind::Response, refused(card, 1), &[], text),
+        Word::Unreadable => unreadable(card, text),
     }
 }

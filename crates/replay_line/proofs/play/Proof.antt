@@ -1,7 +1,7 @@
 -- By the word of the line.
 use mathlib.Core.Path.{sym}
 use borrow.Author.Needs.{needs}
-use Rattle.replay_line.proofs.Asked.{no-room, by-word, cmd-line, blk-line, take-line, over-line, bad-line, refused-by}
+use Rattle.replay_line.proofs.Asked.{no-room, by-word, cmd-line, blk-line, take-line, over-line, bad-line}
 use Rattle.replay_line.proofs.play.Statement.{statement}
 use Rattle.replay_line.proofs.play.Tie as tie
 
@@ -14,8 +14,6 @@ play-spec =
     (λ c. search needs)
     (λ c κs. search needs)
     (λ c. search needs)
-    (λ c. search needs)
-    (λ c κs. search needs)
     (λ c. search needs)
     (λ c κs. search needs)
     (λ c. search needs)
@@ -46,5 +44,5 @@ play-spec =
     by-word _ _ _ (read .result) (c .before .before .before .before .before .before .before .before .before .if1 .left) (read .ensures) _ _ (over-line _ (read .result) (c .before .before .before .before .before .enum-told4 .given .1)) (c .before .before .over .ensures))
     (λ c. search needs)
     (λ c.
-    let read = c .before .before .before .before .before .before .before .before .before .read in
-    by-word _ _ _ (read .result) (c .before .before .before .before .before .before .before .before .before .before .if1 .left) (read .ensures) _ _ (bad-line _ (read .result) (c .before .before .before .before .before .before .enum-told5 .given .1)) (refused-by _ _ _ (c .before .before .before .before .before .refused .result) _ (c .before .before .answer-line .ensures _) (c .before .before .before .before .before .refused .ensures))))
+    let read = c .before .before .before .before .before .before .before .read in
+    by-word _ _ _ (read .result) (c .before .before .before .before .before .before .before .before .if1 .left) (read .ensures) _ _ (bad-line _ (read .result) (c .before .before .before .before .enum-told5 .given .1)) (c .before .before .unreadable .ensures _)))
