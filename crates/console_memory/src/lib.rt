@@ -27,7 +27,7 @@ pub fn lent(blocks: u32, bytes: usize) -> usize
     bytes
 }
 
-// A block of memory on a line; from the last one on the line cannot be read.
+// A block of memory on a line. Where there is no such block the line cannot be read.
 pub fn show(memory: &[u8], field: &[u8], text: &mut [u8]) -> Encoded {
     match console_read::number(field) {
         NumberRead::Read(number) => {
