@@ -1,12 +1,12 @@
 // The console's own calls of the card: a power-up with any settings, and a block of any size.
 use card_model::card::Card;
 use console_memory::lent;
-use console_read::NumberRead;
 use console_read::SettingsRead;
 use replay_answer::Replayed;
 use replay_answer::answer_line;
 use replay_answer::unreadable;
 use replay_read::front;
+use replay_read::hex::unhex;
 use replay_write::Kind;
 
 pub fn power(card: Card, memory: &[u8], fields: &[u8], text: &mut [u8]) -> Replayed {
@@ -23,8 +23,11 @@ pub fn power(card: Card, memory: &[u8], fields: &[u8], text: &mut [u8]) -> Repla
 // A block of up to 520 bytes; the card judges its size.
 pub fn block(card: Card, memory: &mut [u8], digits: &[u8], text: &mut [u8]) -> Replayed {
     let mut bytes: [u8; 520] = [0; 520];
-    match console_read::block(digits, &mut bytes) {
-        NumberRead::Read(n) => replay_answer::block(card, memory, front(&bytes, n), text),
-        NumberRead::Unreadable => unreadable(card, text),
+    let n = digits.len() / 2;
+    if n <= 520 {
+        if unhex(digits, &mut bytes[0..n]) {
+            return replay_answer::block(card, memory, front(&bytes, n), text);
+        }
     }
+    unreadable(card, text)
 }

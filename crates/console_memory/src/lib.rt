@@ -1,20 +1,13 @@
 // The console's memory: what is lent of it, and a block of it on a line.
 ghost use mathlib.Core.Path.{_≡_};
 ghost use Prim.Native.Nat.{_*_, _≤_, min};
-ghost use lib.ListN.{length, replicate};
 use card_model::answer::Answer;
 use card_model::size::BLOCK;
 use codec::Encoded;
-use console_read::NumberRead;
+use codec::word32;
+use replay_read::hex::unhex;
 use replay_write::Kind;
 use replay_write::write;
-
-// 2,048 blocks, zero at first.
-pub fn blank() -> [u8; 1048576]
-    ensures { λ r. ⌜ (1048576 ≡ length r) × (r ≡ replicate 1048576 0) ⌝ }
-{
-    [0; 1048576]
-}
 
 // How many of so many bytes of memory are lent to a call: those of a card of `blocks` blocks, or all where there are fewer.
 pub fn lent(blocks: u32, bytes: usize) -> usize
@@ -27,16 +20,15 @@ pub fn lent(blocks: u32, bytes: usize) -> usize
     bytes
 }
 
-// A block of memory on a line. Where there is no such block the line cannot be read.
+// A block of memory on a line, by its number in 8 digits. Where there is no such block the line cannot be read.
 pub fn show(memory: &[u8], field: &[u8], text: &mut [u8]) -> Encoded {
-    match console_read::number(field) {
-        NumberRead::Read(number) => {
-            if number < memory.len() / 512 {
-                let at = number * 512;
-                return write(Kind::Memory, Answer::Sent(512), &memory[at..at + 512], text);
-            }
-            write(Kind::Response, Answer::Refused(1), &[], text)
+    let mut bytes: [u8; 4] = [0; 4];
+    if unhex(field, &mut bytes) {
+        let number = word32(&bytes) as usize;
+        if number < memory.len() / 512 {
+            let at = number * 512;
+            return write(Kind::Memory, Answer::Sent(512), &memory[at..at + 512], text);
         }
-        NumberRead::Unreadable => write(Kind::Response, Answer::Refused(1), &[], text),
     }
+    write(Kind::Response, Answer::Refused(1), &[], text)
 }

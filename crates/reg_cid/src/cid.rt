@@ -64,7 +64,7 @@ pub fn sixteen(c: Cid) -> [u8; 16]
 }
 
 // The fields of two words of content.
-fn fields(a: u64, b: u64) -> Cid
+pub fn fields(a: u64, b: u64) -> Cid
     ensures { λ r. ⌜ cidValues r ≡ read (cid .slots) (content a b) ⌝ }
 {
     Cid {

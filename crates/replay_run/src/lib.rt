@@ -5,13 +5,13 @@ use replay_answer::bench::blank;
 use replay_read::fill;
 use replay_read::front;
 use replay_session::hear_all;
-use replay_write::text_buffer;
+use replay_write::mebibyte;
 
 // A proved loop has to end: it counts its reads down from a number that no run uses up. The answers of a read are written at once.
 pub fn run(fd: i32) {
     let mut memory = blank();
     let mut line: [u8; 1033] = [0; 1033];
-    let mut text = text_buffer();
+    let mut text = mebibyte();
     let mut chunk = io::buffer();
     let mut s = Session {
         card: bench(&memory),

@@ -1,7 +1,6 @@
 // The replay program's lines of output.
 ghost use mathlib.Core.Path.{_≡_};
 ghost use Prim.Native.Nat.{_+_, _≤_, min};
-ghost use lib.Dec.{leb};
 ghost use lib.ListN.{length, replicate};
 ghost use Rattle.codec.specs.Answer.{encoded, encoding};
 ghost use Rattle.card_model.specs.Step as Step;
@@ -45,36 +44,18 @@ pub const ROOM: usize = 1033;
 pub fn end(at: usize, e: Encoded, bytes: usize) -> usize
     ensures { λ r. ⌜ r ≡ min (at + size (encoded e)) bytes ⌝ }
 {
+    if bytes <= at {
+        return bytes;
+    }
     match e {
-        Encoded::Wrote(n) => sum(at, n, bytes),
-        Encoded::Refused(_) => sum(at, 0, bytes),
+        Encoded::Wrote(n) => {
+            if n < bytes - at {
+                return at + n;
+            }
+            bytes
+        }
+        Encoded::Refused(_) => at,
     }
-}
-
-// A sum, and no more than `most`.
-fn sum(a: usize, b: usize, most: usize) -> usize
-    ensures { λ r. ⌜ r ≡ min (a + b) most ⌝ }
-{
-    if most <= a {
-        return most;
-    }
-    if most - a <= b {
-        return most;
-    }
-    a + b
-}
-
-// The longest line fits behind the first `count` of so many bytes.
-fn room_behind(count: usize, bytes: usize) -> bool
-    ensures { λ r. ⌜ r ≡ leb (count + ROOM) bytes ⌝ }
-{
-    if bytes < count {
-        return false;
-    }
-    if bytes - count < ROOM {
-        return false;
-    }
-    true
 }
 
 // Where the next line goes in a text whose first `count` bytes are lines. Where the room behind them is short they are written
@@ -82,15 +63,19 @@ fn room_behind(count: usize, bytes: usize) -> bool
 pub fn place(text: &[u8], count: usize) -> usize
     ensures { λ r. ⌜ (r ≡ place (length (now (text .entry))) count) × (r ≤ length (now (text .entry))) ⌝ }
 {
-    if room_behind(count, text.len()) {
-        return count;
+    // no sum of lengths is made before it is known to fit
+    if count <= text.len() {
+        if text.len() - count >= ROOM {
+            return count;
+        }
     }
     io::write_all(1, front(text, count));
     0
 }
 
-// A text with room for the answers to any 4,096 bytes of input, which are the longest where all are `take`s.
-pub fn text_buffer() -> [u8; 1048576]
+// A text with room for the answers to any 4,096 bytes of input, which are the longest where all are `take`s; and 2,048 blocks
+// of memory.
+pub fn mebibyte() -> [u8; 1048576]
     ensures { λ r. ⌜ (1048576 ≡ length r) × (r ≡ replicate 1048576 0) ⌝ }
 {
     [0; 1048576]

@@ -1,4 +1,5 @@
--- `end` adds what was written.
+-- `end` adds what was written; it subtracts first, so that no sum is too large.
+use native.Mathlib.Omega.{arith}
 use borrow.Author.Needs.{needs}
 use Rattle.replay_write.proofs.end.Statement.{statement}
 use Rattle.replay_write.proofs.end.Tie as tie
@@ -8,8 +9,10 @@ end-spec =
     tie.close
     (tie.spec
     (λ c. search needs)
-    (λ c κs. search needs)
     (λ c. search needs)
-    (λ c κs. search needs)
-    (λ c. simp (c .before .before .e .given .1) (c .sum .ensures))
-    (λ c. simp (c .before .enum-told .given .1) (c .sum2 .ensures)))
+    (λ c. search needs)
+    (λ c. search needs)
+    (λ c. simp (c .before .before .e .given .1) (omega arith))
+    (λ c. search needs)
+    (λ c. simp (c .before .before .e .given .1) (omega arith))
+    (λ c. simp (c .enum-told .given .1) (omega arith)))
