@@ -9,13 +9,13 @@ use lib.ListN.{length}
 use lib.Seq.{length-take-le}
 use Rattle.codec.specs.Answer.{done, refused, WRONG, why, part}
 use Rattle.wire_packet.specs.Packet.{CHECK, payloadOf, packetRight, decodePacket}
-use Rattle.card_model.specs.declared.card.Core.{Core}
-use Rattle.card_model.specs.declared.done.Effect.the-variants.{Store}
-use Rattle.card_model.specs.declared.state.State.{State}
-use Rattle.card_model.specs.Settings.{BLOCK}
-use Rattle.card_model.specs.Record.{withState}
-use Rattle.card_model.specs.Status.{OUT-OF-RANGE, WP-VIOLATION}
-use Rattle.card_model.specs.Effects.{Stored, stored, over, affected}
+use Rattle.card.specs.declared.Core.{Core}
+use Rattle.card.specs.declared.done.Effect.the-variants.{Store}
+use Rattle.card.specs.declared.State.{State}
+use Rattle.card.specs.Settings.{BLOCK}
+use Rattle.card.specs.Record.{withState}
+use Rattle.card.specs.Status.{OUT-OF-RANGE, WP-VIOLATION}
+use Rattle.card.specs.Effects.{Stored, stored, over, affected}
 use Rattle.card_effect.specs.Apply.{reaches}
 
 module _ (p : List ℕ) (long : length p ≡ BLOCK + CHECK) where

@@ -8,17 +8,17 @@ use native.Mathlib.Omega.{arith}
 use borrow.Author.Tests.{eqb-true, not-false}
 use lib.Dec.{eqb}
 use lib.ListN.{length}
-use Rattle.card_model.specs.declared.state.Sink.the-variants.{Single, Multiple}
-use Rattle.card_model.specs.declared.state.Open.{Open}
-use Rattle.card_model.specs.declared.state.Open.the-variants.{Nothing, Read, Write, Busy}
-use Rattle.card_model.specs.declared.card.Core.{Core}
-use Rattle.card_model.specs.Settings.{BLOCK}
-use Rattle.card_model.specs.State.{openOf}
-use Rattle.card_model.specs.Soundness.{offWrite}
-use Rattle.card_model.specs.Data.{writeInto, blockInto}
-use Rattle.card_model.specs.Step.{BLOCK-ROWS, applies, refusal, blockSize}
+use Rattle.card.specs.declared.Sink.the-variants.{Single, Multiple}
+use Rattle.card.specs.declared.Open.{Open}
+use Rattle.card.specs.declared.Open.the-variants.{Nothing, Read, Write, Busy}
+use Rattle.card.specs.declared.Core.{Core}
+use Rattle.card.specs.Settings.{BLOCK}
+use Rattle.card.specs.State.{openOf}
+use Rattle.card.specs.Soundness.{offWrite}
+use Rattle.card.specs.Data.{writeInto, blockInto}
+use Rattle.card.specs.Step.{BLOCK-ROWS, applies, refusal, blockSize}
 use Rattle.card_refuse.specs.Rows.{rowsOf}
-use Rattle.card_model.proofs.Facts.{facts-sound}
+use Rattle.card.proofs.Facts.{facts-sound}
 use Rattle.card_refuse.proofs.Passed.{passed, sized}
 use Rattle.card_block_in.specs.Stores.{Stores, parts}
 

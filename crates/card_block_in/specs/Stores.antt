@@ -4,19 +4,19 @@ use mathlib.Core.Bool.{Bool, true, false, cond}
 use mathlib.Core.List.{List}
 use Prim.Native.Nat.{ℕ, _%_, _≤_}
 use lib.ListN.{length}
-use Rattle.card_model.specs.declared.state.Sink.the-variants.{Single, Multiple}
-use Rattle.card_model.specs.declared.state.Open.{Open}
-use Rattle.card_model.specs.declared.state.Open.the-variants.{Nothing, Read, Write, Busy}
-use Rattle.card_model.specs.declared.card.Core.{Core}
-use Rattle.card_model.specs.declared.done.Effect.the-variants.{Store}
-use Rattle.card_model.specs.declared.done.Flag.the-variants.{Keep}
-use Rattle.card_model.specs.Settings.{BLOCK, MOST, capacity}
-use Rattle.card_model.specs.Status.{OUT-OF-RANGE, WP-VIOLATION}
-use Rattle.card_model.specs.Protect.{whole, guarded}
-use Rattle.card_model.specs.Checks.{outside}
-use Rattle.card_model.specs.Execute.{raise}
-use Rattle.card_model.specs.Frame.{Turn, token, quiet}
-use Rattle.card_model.specs.Data.{holdWrite, accepted, ACCEPTED}
+use Rattle.card.specs.declared.Sink.the-variants.{Single, Multiple}
+use Rattle.card.specs.declared.Open.{Open}
+use Rattle.card.specs.declared.Open.the-variants.{Nothing, Read, Write, Busy}
+use Rattle.card.specs.declared.Core.{Core}
+use Rattle.card.specs.declared.done.Effect.the-variants.{Store}
+use Rattle.card.specs.declared.done.Flag.the-variants.{Keep}
+use Rattle.card.specs.Settings.{BLOCK, MOST, capacity}
+use Rattle.card.specs.Status.{OUT-OF-RANGE, WP-VIOLATION}
+use Rattle.card.specs.Protect.{whole, guarded}
+use Rattle.card.specs.Checks.{outside}
+use Rattle.card.specs.Execute.{raise}
+use Rattle.card.specs.Frame.{Turn, token, quiet}
+use Rattle.card.specs.Data.{holdWrite, accepted, ACCEPTED}
 use Rattle.card_refuse.specs.Rows.{Sized}
 use Rattle.card_block_in.specs.declared.turn.Transfer.{Transfer}
 

@@ -1,15 +1,15 @@
 // A data block in, payload and check. The record by value and back; memory is lent.
 ghost use mathlib.Core.Path.{_≡_};
 ghost use mathlib.Core.List.{[]};
-ghost use Rattle.card_model.specs.Step.{blockIn};
+ghost use Rattle.card.specs.Step.{blockIn};
 ghost use Rattle.card_call.specs.Seen.{returned, stepped};
 
 mod turn;
 
+use card::Card;
+use card::size::BLOCK;
 use card_call::Stepped;
 use card_call::refused;
-use card_model::card::Card;
-use card_model::size::BLOCK;
 use card_refuse::refusal;
 use card_refuse::rows;
 use wire_packet::CHECK;

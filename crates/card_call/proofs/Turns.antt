@@ -2,18 +2,18 @@
 use mathlib.Core.Path.{_≡_, sym, ap, _∙_}
 use mathlib.Core.List.{List}
 use Prim.Native.Nat.{ℕ}
-use Rattle.card_model.specs.declared.answer.Answer.{Answer}
-use Rattle.card_model.specs.declared.answer.Answer.the-variants.{Silence, Accepted, Rejected, Over}
-use Rattle.card_model.specs.declared.state.Open.{Open}
-use Rattle.card_model.specs.declared.card.Core.{Core}
-use Rattle.card_model.specs.declared.card.Card.{Card}
-use Rattle.card_model.specs.declared.done.Effect.the-variants.{Store}
-use Rattle.card_model.specs.declared.done.Flag.the-variants.{Keep}
-use Rattle.card_model.specs.Record.{withMarks}
-use Rattle.card_model.specs.Effects.{over, affected}
-use Rattle.card_model.specs.Frame.{Turn, token, finished, quiet}
-use Rattle.card_model.specs.Data.{said, ACCEPTED, REJECTED}
-use Rattle.card_model.specs.Step.{wire, replyOf, flagged, show}
+use Rattle.card.specs.declared.answer.Answer.{Answer}
+use Rattle.card.specs.declared.answer.Answer.the-variants.{Silence, Accepted, Rejected, Over}
+use Rattle.card.specs.declared.Open.{Open}
+use Rattle.card.specs.declared.Core.{Core}
+use Rattle.card.specs.declared.Card.{Card}
+use Rattle.card.specs.declared.done.Effect.the-variants.{Store}
+use Rattle.card.specs.declared.done.Flag.the-variants.{Keep}
+use Rattle.card.specs.Record.{withMarks}
+use Rattle.card.specs.Effects.{over, affected}
+use Rattle.card.specs.Frame.{Turn, token, finished, quiet}
+use Rattle.card.specs.Data.{said, ACCEPTED, REJECTED}
+use Rattle.card.specs.Step.{wire, replyOf, flagged, show}
 use Rattle.card_call.specs.declared.Stepped.{Stepped}
 use Rattle.card_call.specs.Seen.{Seen, returned, turned}
 

@@ -2,9 +2,9 @@
 use mathlib.Core.List.{List}
 use Prim.Native.Nat.{ℕ}
 use Rattle.codec.specs.Answer.{Outcome}
-use Rattle.card_model.specs.declared.card.Card.{Card}
-use Rattle.card_model.specs.Frame.{Turn}
-use Rattle.card_model.specs.Step.{Call, Reply, Result, answer, world, show, step}
+use Rattle.card.specs.declared.Card.{Card}
+use Rattle.card.specs.Frame.{Turn}
+use Rattle.card.specs.Step.{Call, Reply, Result, answer, world, show, step}
 use Rattle.card_call.specs.declared.Stepped.{Stepped}
 
 pub record Seen : Type 0 where

@@ -1,11 +1,11 @@
 // What a call returns: its answer and the record.
 ghost use mathlib.Core.Path.{_≡_};
 ghost use Rattle.codec.specs.Answer.{encoded};
-ghost use Rattle.card_model.specs.Step.{answer};
+ghost use Rattle.card.specs.Step.{answer};
 ghost use Rattle.card_call.specs.Replied.{replied};
-use card_model::answer::Answer;
-use card_model::card::Card;
-use card_model::card::Core;
+use card::Card;
+use card::Core;
+use card::answer::Answer;
 use codec::Encoded;
 
 pub struct Stepped {

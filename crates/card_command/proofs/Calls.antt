@@ -9,21 +9,21 @@ use borrow.Author.Tests.{le-ltb, le-leb, ltb-false, eqb-true, not-false}
 use lib.Dec.{eqb}
 use lib.ListN.{length, drop}
 use Rattle.codec.specs.Answer.{done}
-use Rattle.card_model.specs.declared.answer.Answer.{Answer}
-use Rattle.card_model.specs.declared.settings.Settings.{Settings}
-use Rattle.card_model.specs.declared.card.Core.{Core}
-use Rattle.card_model.specs.declared.card.Card.{Card}
-use Rattle.card_model.specs.declared.done.Effect.{Effect}
-use Rattle.card_model.specs.declared.done.Effect.the-variants.{Nothing, Store, Sweep, Protect}
-use Rattle.card_model.specs.Settings.{BLOCK, capacity}
-use Rattle.card_model.specs.Record.{withMarks}
-use Rattle.card_model.specs.Protect.{whole}
-use Rattle.card_model.specs.Effects.{Stored, stored, affected}
-use Rattle.card_model.specs.Frame.{Turn, receive}
-use Rattle.card_model.specs.Step.{world, commandFrame, answer, replyOf, wire, flagged, show, applies, FRAME, ROOM, frameRefusal, framed, step}
-use Rattle.card_model.proofs.Facts.{facts-sound}
-use Rattle.card_model.proofs.Extent.{Inside}
-use Rattle.card_model.proofs.Frames.{receive-lasting}
+use Rattle.card.specs.declared.answer.Answer.{Answer}
+use Rattle.card.specs.declared.Settings.{Settings}
+use Rattle.card.specs.declared.Core.{Core}
+use Rattle.card.specs.declared.Card.{Card}
+use Rattle.card.specs.declared.done.Effect.{Effect}
+use Rattle.card.specs.declared.done.Effect.the-variants.{Nothing, Store, Sweep, Protect}
+use Rattle.card.specs.Settings.{BLOCK, capacity}
+use Rattle.card.specs.Record.{withMarks}
+use Rattle.card.specs.Protect.{whole}
+use Rattle.card.specs.Effects.{Stored, stored, affected}
+use Rattle.card.specs.Frame.{Turn, receive}
+use Rattle.card.specs.Step.{world, commandFrame, answer, replyOf, wire, flagged, show, applies, FRAME, ROOM, frameRefusal, framed, step}
+use Rattle.card.proofs.Facts.{facts-sound}
+use Rattle.card.proofs.Extent.{Inside}
+use Rattle.card.proofs.Frames.{receive-lasting}
 use Rattle.card_call.specs.declared.Stepped.{Stepped}
 use Rattle.card_call.specs.Seen.{Seen, returned, seen, stepped}
 use Rattle.card_respond.specs.Sent.{message, Responded, responded, onLine}

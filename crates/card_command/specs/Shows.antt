@@ -4,9 +4,9 @@ use mathlib.Core.Bool.{true}
 use mathlib.Core.List.{List}
 use Prim.Native.Nat.{ℕ, _≤_}
 use lib.ListN.{length}
-use Rattle.card_model.specs.declared.settings.Settings.{Settings}
-use Rattle.card_model.specs.declared.done.Effect.{Effect}
-use Rattle.card_model.specs.Step.{ROOM}
+use Rattle.card.specs.declared.Settings.{Settings}
+use Rattle.card.specs.declared.done.Effect.{Effect}
+use Rattle.card.specs.Step.{ROOM}
 use Rattle.card_effect.specs.Apply.{reaches}
 
 pub record Shows (s : Settings) (e : Effect) (memory out : List ℕ) : Type 0 where

@@ -1,15 +1,15 @@
 // The call of a command frame: its refusals, the frame rules, the effect on memory and marks, and the response on the line.
 ghost use mathlib.Core.Path.{_≡_};
-ghost use Rattle.card_model.specs.Step.{world, show, commandFrame};
+ghost use Rattle.card.specs.Step.{world, show, commandFrame};
 ghost use Rattle.card_call.specs.Seen.{returned, seen, stepped};
 ghost use Rattle.card_finish.specs.Turned.{turned};
 ghost use Rattle.card_command.specs.Shows.{Shows};
+use card::Card;
 use card_call::Stepped;
 use card_call::refused;
 use card_effect::apply;
 use card_finish::Turned;
 use card_finish::kept;
-use card_model::card::Card;
 use card_protect::whole;
 use card_receive::receive;
 use card_refuse::refusal;

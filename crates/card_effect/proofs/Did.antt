@@ -5,11 +5,11 @@ use mathlib.Core.List.{List}
 use Prim.Native.Nat.{ℕ, _+_, _*_}
 use lib.Dec.{leb}
 use lib.ListN.{length}
-use Rattle.card_model.specs.declared.done.Effect.{Effect}
-use Rattle.card_model.specs.declared.done.Effect.the-variants.{Store, Sweep, Protect}
-use Rattle.card_model.specs.Settings.{BLOCK}
-use Rattle.card_model.specs.Protect.{mark}
-use Rattle.card_model.specs.Effects.{Stored, stored, over, swept, affected}
+use Rattle.card.specs.declared.done.Effect.{Effect}
+use Rattle.card.specs.declared.done.Effect.the-variants.{Store, Sweep, Protect}
+use Rattle.card.specs.Settings.{BLOCK}
+use Rattle.card.specs.Protect.{mark}
+use Rattle.card.specs.Effects.{Stored, stored, over, swept, affected}
 use Rattle.card_effect.specs.Apply.{reaches}
 
 stored-cond : (b : Bool) (x y marks : List ℕ) → stored (cond b x y) marks ≡ cond b (stored x marks) (stored y marks)

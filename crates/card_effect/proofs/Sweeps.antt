@@ -8,9 +8,9 @@ use native.Mathlib.Omega.{arith}
 use borrow.Rule.Slice.PartMut.{midOf, putMid, put-same, mid-len, post-is}
 use lib.ListN.{length, getD, take, drop, set, replicate, length-replicate, replicate-append-replicate, drop-of-length-le}
 use lib.Seq.{take-length, drop-cons, set-at, append-snoc}
-use Rattle.card_model.specs.Settings.{BLOCK}
-use Rattle.card_model.specs.Protect.{guarded}
-use Rattle.card_model.specs.Effects.{over, sweptBlock, swept}
+use Rattle.card.specs.Settings.{BLOCK}
+use Rattle.card.specs.Protect.{guarded}
+use Rattle.card.specs.Effects.{over, sweptBlock, swept}
 use Rattle.card_protect.proofs.Blocks.{left-one}
 
 module _ (all : Bool) (marks : List ℕ) (b e : ℕ) (m : List ℕ) where

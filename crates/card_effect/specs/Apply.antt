@@ -2,9 +2,9 @@
 use mathlib.Core.Bool.{Bool, true}
 use Prim.Native.Nat.{ℕ, _+_, _*_}
 use lib.Dec.{leb}
-use Rattle.card_model.specs.declared.done.Effect.{Effect}
-use Rattle.card_model.specs.declared.done.Effect.the-variants.{Nothing, Store, Sweep, Protect}
-use Rattle.card_model.specs.Settings.{BLOCK}
+use Rattle.card.specs.declared.done.Effect.{Effect}
+use Rattle.card.specs.declared.done.Effect.the-variants.{Nothing, Store, Sweep, Protect}
+use Rattle.card.specs.Settings.{BLOCK}
 
 -- with a payload and a memory of so many bytes
 abbrev pub reaches : Effect → ℕ → ℕ → Bool

@@ -4,11 +4,11 @@ ghost use mathlib.Core.Bool.{cond};
 ghost use Prim.Native.Nat.{_+_, _*_, _^_, _<_, _≤_};
 ghost use lib.Dec.{leb};
 ghost use lib.ListN.{length, replicate};
-ghost use Rattle.card_model.specs.Settings.{BLOCK};
-ghost use Rattle.card_model.specs.Effects.{stored, over, sweptBlock, swept, affected};
+ghost use Rattle.card.specs.Settings.{BLOCK};
+ghost use Rattle.card.specs.Effects.{stored, over, sweptBlock, swept, affected};
 ghost use Rattle.card_effect.specs.Apply.{reaches};
-use card_model::done::Effect;
-use card_model::size::BLOCK;
+use card::done::Effect;
+use card::size::BLOCK;
 use card_protect::guarded_block;
 use card_protect::mark;
 

@@ -1,15 +1,15 @@
 // Erase: 32 and 33 give the first and the second address, 38 erases from the block of one through that of the other.
 ghost use mathlib.Core.Path.{_≡_};
 ghost use Prim.Native.Nat.{_≤_};
-ghost use Rattle.card_model.specs.Execute.{settled, eraseStart, eraseEnd, skipped, erased, erase};
-use card_model::card::Core;
-use card_model::card::EraseMark;
-use card_model::card::EraseMarks;
-use card_model::command::Command;
-use card_model::done::Done;
-use card_model::done::Effect;
-use card_model::done::Response;
-use card_model::size::BLOCK;
+ghost use Rattle.card.specs.Execute.{settled, eraseStart, eraseEnd, skipped, erased, erase};
+use card::Core;
+use card::EraseMark;
+use card::EraseMarks;
+use card::command::Command;
+use card::done::Done;
+use card::done::Effect;
+use card::done::Response;
+use card::size::BLOCK;
 use card_protect::any_guarded;
 use card_protect::whole;
 use card_record::drop_erase;

@@ -3,20 +3,20 @@ use mathlib.Core.Path.{_≡_, refl, ap, _∙_}
 use mathlib.Core.Bool.{Bool, false}
 use mathlib.Core.List.{[]}
 use Prim.Native.Nat.{ℕ}
-use Rattle.card_model.specs.declared.card.Core.{Core}
-use Rattle.card_model.specs.declared.command.Command.{Command}
-use Rattle.card_model.specs.declared.done.Response.{Response}
-use Rattle.card_model.specs.declared.done.Response.the-variants.{Nothing, R1, R6, Cid, Csd, R3, R7}
-use Rattle.card_model.specs.declared.done.Done.{Done}
-use Rattle.card_model.specs.declared.done.Flag.the-variants.{Keep, Clear}
-use Rattle.card_model.specs.declared.done.Judged.{Judged}
-use Rattle.card_model.specs.declared.done.Verdict.the-variants.{NotAllowed, OtherCard, Ran}
-use Rattle.card_model.specs.Record.{withApp}
-use Rattle.card_model.specs.State.{number}
-use Rattle.card_model.specs.Status.{ILLEGAL-COMMAND}
-use Rattle.card_model.specs.Table.{row, setsApp}
-use Rattle.card_model.specs.Execute.{raise}
-use Rattle.card_model.specs.Frame.{Message, Turn, quiet, wordOf, messageOf, cleared, finish, showSd}
+use Rattle.card.specs.declared.Core.{Core}
+use Rattle.card.specs.declared.command.Command.{Command}
+use Rattle.card.specs.declared.done.Response.{Response}
+use Rattle.card.specs.declared.done.Response.the-variants.{Nothing, R1, R6, Cid, Csd, R3, R7}
+use Rattle.card.specs.declared.done.Done.{Done}
+use Rattle.card.specs.declared.done.Flag.the-variants.{Keep, Clear}
+use Rattle.card.specs.declared.done.Judged.{Judged}
+use Rattle.card.specs.declared.done.Verdict.the-variants.{NotAllowed, OtherCard, Ran}
+use Rattle.card.specs.Record.{withApp}
+use Rattle.card.specs.State.{number}
+use Rattle.card.specs.Status.{ILLEGAL-COMMAND}
+use Rattle.card.specs.Table.{row, setsApp}
+use Rattle.card.specs.Execute.{raise}
+use Rattle.card.specs.Frame.{Message, Turn, quiet, wordOf, messageOf, cleared, finish, showSd}
 use Rattle.card_respond.specs.Sent.{messageBy}
 use Rattle.card_finish.specs.Turned.{turned}
 

@@ -1,6 +1,6 @@
 -- What a frame comes to, as the model's turn has it; no frame stores a payload.
 use mathlib.Core.List.{[]}
-use Rattle.card_model.specs.Frame as Frame
+use Rattle.card.specs.Frame as Frame
 use Rattle.card_respond.specs.Sent.{message}
 use Rattle.card_finish.specs.declared.Turned.{Turned}
 

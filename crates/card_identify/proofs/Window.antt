@@ -5,7 +5,7 @@ use Prim.Native.Nat.{ℕ, _/_, _^_}
 use borrow.Author.Tests.{eq-eqb, ne-eqb}
 use lib.Bits.{bitAnd, and-mask}
 use lib.Dec.{eqb}
-use Rattle.card_model.specs.Execute.{window, fitting}
+use Rattle.card.specs.Execute.{window, fitting}
 
 module _ (a : ℕ) where
   masked : bitAnd a 0xFFFFFF ≡ window a

@@ -1,14 +1,14 @@
 // The commands that identify the card: 3, 8 and A41.
 ghost use mathlib.Core.Path.{_≡_};
-ghost use Rattle.card_model.specs.declared.done.Response.the-variants.{R6};
-ghost use Rattle.card_model.specs.Execute.{ran, moved, nextRca, sendIfCond, sendOpCond};
-ghost use Rattle.card_model.specs.Record.{withRca};
-ghost use Rattle.card_model.specs.Settings.{ocrOf};
-use card_model::card::Core;
-use card_model::command::Command;
-use card_model::done::Done;
-use card_model::done::Response;
-use card_model::state::State;
+ghost use Rattle.card.specs.declared.done.Response.the-variants.{R6};
+ghost use Rattle.card.specs.Execute.{ran, moved, nextRca, sendIfCond, sendOpCond};
+ghost use Rattle.card.specs.Record.{withRca};
+ghost use Rattle.card.specs.Settings.{ocrOf};
+use card::Core;
+use card::State;
+use card::command::Command;
+use card::done::Done;
+use card::done::Response;
 use card_record::with_polls;
 use card_record::with_rca;
 use card_record::with_state;

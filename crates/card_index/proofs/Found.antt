@@ -7,10 +7,10 @@ use native.Mathlib.Numerals.{add-one}
 use lib.Dec.{eqb}
 use lib.ListN.{length, drop, getD, drop-of-length-le}
 use lib.Seq.{drop-cons}
-use Rattle.card_model.specs.declared.card.Bus.{Bus}
-use Rattle.card_model.specs.declared.command.Command.{Command}
-use Rattle.card_model.specs.declared.command.Command.the-variants.{Unknown}
-use Rattle.card_model.specs.Table.{isApplication, takes, fits, find, commands, commandOf}
+use Rattle.card.specs.declared.Bus.{Bus}
+use Rattle.card.specs.declared.command.Command.{Command}
+use Rattle.card.specs.declared.command.Command.the-variants.{Unknown}
+use Rattle.card.specs.Table.{isApplication, takes, fits, find, commands, commandOf}
 use Rattle.card_table.specs.declared.Columns.{Columns}
 use Rattle.card_table.specs.Packed.{packedRow}
 

@@ -2,11 +2,11 @@
 ghost use mathlib.Core.Path.{_≡_};
 ghost use Prim.Native.Nat.{_/_, _^_};
 ghost use lib.Dec.{eqb};
-ghost use Rattle.card_model.specs.Table.{commands, isApplication, takes, fits, find, commandOf};
-use card_model::card::Bus;
-use card_model::command::Command;
-use card_model::command::Kind;
-use card_model::command::Rca;
+ghost use Rattle.card.specs.Table.{commands, isApplication, takes, fits, find, commandOf};
+use card::Bus;
+use card::command::Command;
+use card::command::Kind;
+use card::command::Rca;
 use card_table::row;
 
 fn is_application(kind: Kind) -> bool

@@ -4,8 +4,8 @@ use mathlib.Core.Bool.{Bool, true, false, _||_}
 use mathlib.Core.List.{List}
 use Prim.Native.Nat.{ℕ, suc, _+_, _-_, _*_, _<_, _≤_}
 use native.Mathlib.Omega.{arith}
-use Rattle.card_model.specs.Settings.{BLOCK}
-use Rattle.card_model.specs.Protect.{guarded, anyGuarded}
+use Rattle.card.specs.Settings.{BLOCK}
+use Rattle.card.specs.Protect.{guarded, anyGuarded}
 
 -- one block, and those behind it
 pub left-one : (b e : ℕ) → b < e → e - b ≡ suc (e - (b + 1))

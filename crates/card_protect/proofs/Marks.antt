@@ -11,7 +11,7 @@ use lib.Dec.{eqb}
 use lib.Pow.{pow-pos, shl-exact}
 use Rattle.crc.specs.Bits.{bit, digit}
 use Rattle.crc.proofs.Bits.{digit-bit}
-use Rattle.card_model.specs.Protect.{putBit, marked}
+use Rattle.card.specs.Protect.{putBit, marked}
 
 other : (b : Bool) → differ (digit b) 1 ≡ digit (not b)
 other true = refl

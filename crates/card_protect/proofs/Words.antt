@@ -12,7 +12,7 @@ use lib.Seq.{append-snoc}
 use Rattle.crc.specs.Bits.{bits, digit}
 use Rattle.crc.proofs.Bits.{bits-cong, bits-join, digit-lt}
 use Rattle.codec.proofs.Masks.{shifted}
-use Rattle.card_model.specs.Protect.{marked, markBits}
+use Rattle.card.specs.Protect.{marked, markBits}
 
 one-bit : (b : Bool) → bits 1 (digit b) ≡ b ∷ []
 unfolding bits

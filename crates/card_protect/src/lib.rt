@@ -5,10 +5,10 @@ ghost use mathlib.Core.List.{[], _∷_, _++_};
 ghost use Prim.Native.Nat.{ℕ, _+_, _-_, _*_, _/_, _<_, _≤_};
 ghost use lib.Dec.{ltb};
 ghost use Rattle.crc.specs.Bits.{bit, bits};
-ghost use Rattle.card_model.specs.Settings.{BLOCK, GROUP};
-ghost use Rattle.card_model.specs.Protect.{groupOf, marked, putBit, mark, guarded, anyGuarded, markBits};
-use card_model::size::BLOCK;
-use card_model::size::GROUP;
+ghost use Rattle.card.specs.Settings.{BLOCK, GROUP};
+ghost use Rattle.card.specs.Protect.{groupOf, marked, putBit, mark, guarded, anyGuarded, markBits};
+use card::size::BLOCK;
+use card::size::GROUP;
 use card_settings::groups;
 
 fn bit(byte: u8, k: u32) -> bool

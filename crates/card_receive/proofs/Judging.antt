@@ -2,13 +2,13 @@
 use mathlib.Core.Path.{_≡_}
 use mathlib.Core.Bool.{Bool, cond}
 use Prim.Native.Nat.{ℕ}
-use Rattle.card_model.specs.declared.card.Core.{Core}
-use Rattle.card_model.specs.declared.command.Command.{Command}
-use Rattle.card_model.specs.declared.done.Response.the-variants.{Nothing}
-use Rattle.card_model.specs.declared.done.Verdict.the-variants.{NotAllowed, OtherCard, Ran}
-use Rattle.card_model.specs.Table.{row, commandOf, own, misses, legal}
-use Rattle.card_model.specs.Execute.{ran, settled, run}
-use Rattle.card_model.specs.Frame.{judged, judge}
+use Rattle.card.specs.declared.Core.{Core}
+use Rattle.card.specs.declared.command.Command.{Command}
+use Rattle.card.specs.declared.done.Response.the-variants.{Nothing}
+use Rattle.card.specs.declared.done.Verdict.the-variants.{NotAllowed, OtherCard, Ran}
+use Rattle.card.specs.Table.{row, commandOf, own, misses, legal}
+use Rattle.card.specs.Execute.{ran, settled, run}
+use Rattle.card.specs.Frame.{judged, judge}
 
 pub judge-by : (c : Core) (index argument : ℕ) (k : Command) (mine : Bool) → k ≡ commandOf (c .bus) index argument → mine ≡ own (c .bus) argument
     → cond (legal k (c .bus .state))

@@ -6,10 +6,10 @@ use native.Mathlib.Omega.{arith}
 use borrow.Author.Tests.{eq-eqb, ne-eqb}
 use Rattle.wire_frame.specs.Command.{frameCheck}
 use Rattle.wire_frame.specs.declared.command.FrameCheck.{FrameCheck}
-use Rattle.card_model.specs.declared.card.Core.{Core}
-use Rattle.card_model.specs.declared.done.Flag.the-variants.{Keep}
-use Rattle.card_model.specs.State.{number, ina}
-use Rattle.card_model.specs.Frame.{quiet, byCheck, receive}
+use Rattle.card.specs.declared.Core.{Core}
+use Rattle.card.specs.declared.done.Flag.the-variants.{Keep}
+use Rattle.card.specs.State.{number, ina}
+use Rattle.card.specs.Frame.{quiet, byCheck, receive}
 
 module _ (c : Core) (s : List ℕ) (n : ℕ) (e : n ≡ number (c .bus .state)) where
   pub asleep : n ≡ ina → quiet c Keep ≡ receive c s

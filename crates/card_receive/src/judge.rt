@@ -1,13 +1,13 @@
 // Which command a frame asks for, whether it is allowed, and what it does then: the same in every bus mode.
 ghost use mathlib.Core.Path.{_≡_};
-ghost use Rattle.card_model.specs.Frame.{judge};
+ghost use Rattle.card.specs.Frame.{judge};
+use card::Core;
+use card::done::Judged;
+use card::done::Response;
+use card::done::Verdict;
 use card_erase::settled;
 use card_index::command_of;
 use card_index::own;
-use card_model::card::Core;
-use card_model::done::Judged;
-use card_model::done::Response;
-use card_model::done::Verdict;
 use card_run::run;
 use card_start::done::ran;
 use card_table::legal;

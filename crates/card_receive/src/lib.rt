@@ -1,15 +1,15 @@
 // The frame rules of SD mode, in order: one walk over the frame gives the command or what is wrong with it.
 ghost use mathlib.Core.Path.{_≡_};
-ghost use Rattle.card_model.specs.Frame.{receive};
+ghost use Rattle.card.specs.Frame.{receive};
 ghost use Rattle.card_finish.specs.Turned.{turned};
 
 pub mod judge;
 
+use card::Core;
+use card::done::Flag;
 use card_finish::Turned;
 use card_finish::quiet;
 use card_finish::show_sd;
-use card_model::card::Core;
-use card_model::done::Flag;
 use judge::judge;
 use wire_frame::command::FrameCheck;
 

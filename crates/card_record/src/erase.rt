@@ -1,9 +1,9 @@
 // The addresses that 32 and 33 gave.
 ghost use mathlib.Core.Path.{_≡_};
 ghost use mathlib.Core.Bool.{_||_};
-ghost use Rattle.card_model.specs.Record.{noErase, isSet, address};
-use card_model::card::EraseMark;
-use card_model::card::EraseMarks;
+ghost use Rattle.card.specs.Record.{noErase, isSet, address};
+use card::EraseMark;
+use card::EraseMarks;
 
 pub fn is_set(m: EraseMark) -> bool
     ensures { λ r. ⌜ r ≡ isSet m ⌝ }

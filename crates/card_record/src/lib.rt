@@ -2,14 +2,14 @@
 pub mod erase;
 
 ghost use mathlib.Core.Path.{_≡_};
-ghost use Rattle.card_model.specs.Record.{withBus, withState, withApp, withRca, withPolls, withKept, withErase, withLength, withWritten, withMarks};
-ghost use Rattle.card_model.specs.Execute.{raise, reset, dropErase};
-use card_model::card::Bus;
-use card_model::card::Core;
-use card_model::card::EraseMarks;
-use card_model::card::Kept;
-use card_model::size::BLOCK;
-use card_model::state::State;
+ghost use Rattle.card.specs.Record.{withBus, withState, withApp, withRca, withPolls, withKept, withErase, withLength, withWritten, withMarks};
+ghost use Rattle.card.specs.Execute.{raise, reset, dropErase};
+use card::Bus;
+use card::Core;
+use card::EraseMarks;
+use card::Kept;
+use card::State;
+use card::size::BLOCK;
 use card_status::join;
 use card_status::no_bits;
 use card_status::only;

@@ -7,14 +7,14 @@ use Prim.Native.Nat.{ℕ, zero, suc, _≤_}
 use borrow.Author.Tests.{leb-true, eqb-true, not-false}
 use lib.Dec.{eqb, leb}
 use lib.ListN.{getD}
-use Rattle.card_model.specs.declared.answer.Rows.{Rows}
-use Rattle.card_model.specs.declared.settings.Settings.{Settings}
-use Rattle.card_model.specs.declared.card.Core.{Core}
-use Rattle.card_model.specs.Settings.{LEAST, MOST, capacity, allowed}
-use Rattle.card_model.specs.Soundness.{unsound}
-use Rattle.card_model.specs.Step.{applies, refusal}
-use Rattle.card_model.proofs.Choices.{spared}
-use Rattle.card_model.proofs.Facts.{facts-sound}
+use Rattle.card.specs.declared.answer.Rows.{Rows}
+use Rattle.card.specs.declared.Settings.{Settings}
+use Rattle.card.specs.declared.Core.{Core}
+use Rattle.card.specs.Settings.{LEAST, MOST, capacity, allowed}
+use Rattle.card.specs.Soundness.{unsound}
+use Rattle.card.specs.Step.{applies, refusal}
+use Rattle.card.proofs.Choices.{spared}
+use Rattle.card.proofs.Facts.{facts-sound}
 use Rattle.card_refuse.specs.Rows.{Sized}
 
 -- the row at each place of the list

@@ -4,10 +4,10 @@ use mathlib.Core.List.{List}
 use mathlib.Core.Option.{Option, none, some}
 use Prim.Native.Nat.{ℕ}
 use borrow.Author.Tests.{eq-eqb, ne-eqb}
-use Rattle.card_model.specs.declared.answer.Answer.the-variants.{Refused}
-use Rattle.card_model.specs.declared.answer.Rows.{Rows}
-use Rattle.card_model.specs.declared.card.Card.{Card}
-use Rattle.card_model.specs.Step.{Result, world, refusal, unless}
+use Rattle.card.specs.declared.answer.Answer.the-variants.{Refused}
+use Rattle.card.specs.declared.answer.Rows.{Rows}
+use Rattle.card.specs.declared.Card.{Card}
+use Rattle.card.specs.Step.{Result, world, refusal, unless}
 use Rattle.card_call.specs.declared.Stepped.{Stepped}
 use Rattle.card_call.specs.Seen.{Seen, returned, seen}
 use Rattle.codec.specs.Answer.{nonzero}

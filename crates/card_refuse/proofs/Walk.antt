@@ -9,8 +9,8 @@ use native.Mathlib.Omega.{arith}
 use borrow.Author.Tests.{ne-eqb}
 use lib.ListN.{length, getD, drop, drop-of-length-le}
 use lib.Seq.{drop-cons}
-use Rattle.card_model.specs.declared.answer.Rows.{Rows}
-use Rattle.card_model.specs.Step.{applies, refusal}
+use Rattle.card.specs.declared.answer.Rows.{Rows}
+use Rattle.card.specs.Step.{applies, refusal}
 use Rattle.codec.specs.Answer.{nonzero}
 
 -- no row has number 0

@@ -3,10 +3,10 @@ use mathlib.Core.Path.{_≡_}
 use mathlib.Core.Bool.{Bool, false, not}
 use Prim.Native.Nat.{ℕ, _≤_}
 use lib.Dec.{eqb}
-use Rattle.card_model.specs.declared.answer.Rows.{Rows}
-use Rattle.card_model.specs.declared.card.Core.{Core}
-use Rattle.card_model.specs.Settings.{MOST, capacity}
-use Rattle.card_model.specs.Soundness.{unsound}
+use Rattle.card.specs.declared.answer.Rows.{Rows}
+use Rattle.card.specs.declared.Core.{Core}
+use Rattle.card.specs.Settings.{MOST, capacity}
+use Rattle.card.specs.Soundness.{unsound}
 
 -- `Step.rows` of a world with that record, and memory of that length
 abbrev pub rowsOf : Core → ℕ → Bool → Bool → Bool → Rows

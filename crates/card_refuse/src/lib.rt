@@ -1,10 +1,10 @@
 // Which rows of the table of refused calls apply to what a call is handed, and the first of a call's own rows that does.
 ghost use mathlib.Core.Path.{_≡_};
-ghost use Rattle.card_model.specs.Step.{applies, refusal};
+ghost use Rattle.card.specs.Step.{applies, refusal};
 ghost use Rattle.codec.specs.Answer.{nonzero};
 ghost use Rattle.card_refuse.specs.Rows.{rowsOf};
-use card_model::answer::Rows;
-use card_model::card::Core;
+use card::Core;
+use card::answer::Rows;
 use card_settings::capacity;
 use card_sound::unsound;
 

@@ -17,10 +17,10 @@ use Rattle.codec.specs.Layout.{write, fits}
 use Rattle.codec.specs.Format.{Format, encode, image, ended, crc7From}
 use Rattle.wire_response.specs.Response.{r1, r2Bytes, encodeR2, r3, r6, r7}
 use Rattle.wire_response.specs.Status.{shortStatus}
-use Rattle.card_model.specs.declared.answer.Answer.{Answer}
-use Rattle.card_model.specs.Frame as Frame
-use Rattle.card_model.specs.Step as Step
-use Rattle.card_model.specs.Step.{answer, silent, wire, replyOf}
+use Rattle.card.specs.declared.answer.Answer.{Answer}
+use Rattle.card.specs.Frame as Frame
+use Rattle.card.specs.Step as Step
+use Rattle.card.specs.Step.{answer, silent, wire, replyOf}
 use Rattle.card_call.specs.Replied.{replied}
 use Rattle.card_respond.specs.Sent.{Sends}
 

@@ -8,14 +8,14 @@ use lib.ListN.{length, drop}
 use Rattle.codec.specs.Answer.{Outcome, done, refused, BUFFER}
 use Rattle.codec.specs.Format.{image}
 use Rattle.wire_response.specs.Response as Wire
-use Rattle.card_model.specs.declared.answer.Answer.{Answer}
-use Rattle.card_model.specs.declared.card.Core.{Core}
-use Rattle.card_model.specs.declared.done.Response.{Response}
-use Rattle.card_model.specs.declared.done.Response.the-variants.{Nothing, R1, R6, Cid, Csd, R3, R7}
-use Rattle.card_model.specs.Settings.{cidBytes, csdBytes}
-use Rattle.card_model.specs.Frame as Frame
-use Rattle.card_model.specs.Step as Step
-use Rattle.card_model.specs.Step.{Reply, answer, wire, replyOf, ROOM}
+use Rattle.card.specs.declared.answer.Answer.{Answer}
+use Rattle.card.specs.declared.Core.{Core}
+use Rattle.card.specs.declared.done.Response.{Response}
+use Rattle.card.specs.declared.done.Response.the-variants.{Nothing, R1, R6, Cid, Csd, R3, R7}
+use Rattle.card.specs.Settings.{cidBytes, csdBytes}
+use Rattle.card.specs.Frame as Frame
+use Rattle.card.specs.Step as Step
+use Rattle.card.specs.Step.{Reply, answer, wire, replyOf, ROOM}
 use Rattle.card_respond.specs.declared.Message.{Message}
 
 -- a response as the model's message, with the address and the registers of the record that the frame came to

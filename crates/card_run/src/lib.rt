@@ -1,17 +1,17 @@
 // What each command does when it runs.
 ghost use mathlib.Core.Path.{_≡_};
-ghost use Rattle.card_model.specs.Execute.{run, runAt};
+ghost use Rattle.card.specs.Execute.{run, runAt};
+use card::Core;
+use card::Source;
+use card::command::Command;
+use card::done::Done;
+use card::done::Response;
 use card_erase::erase;
 use card_erase::erase_end;
 use card_erase::erase_start;
 use card_identify::send_if_cond;
 use card_identify::send_op_cond;
 use card_identify::send_relative_addr;
-use card_model::card::Core;
-use card_model::command::Command;
-use card_model::done::Done;
-use card_model::done::Response;
-use card_model::state::Source;
 use card_record::reset;
 use card_settings::address_of;
 use card_start::done::ran;

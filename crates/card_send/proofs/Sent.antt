@@ -5,11 +5,11 @@ use Prim.Native.Nat.{ℕ}
 use Rattle.codec.specs.declared.Encoded.{Encoded}
 use Rattle.codec.specs.Answer.{Outcome, Encoding, encoded, encoding}
 use Rattle.wire_packet.specs.Packet.{encodePacket}
-use Rattle.card_model.specs.declared.answer.Answer.{Answer}
-use Rattle.card_model.specs.declared.card.Core.{Core}
-use Rattle.card_model.specs.declared.card.Card.{Card}
+use Rattle.card.specs.declared.answer.Answer.{Answer}
+use Rattle.card.specs.declared.Core.{Core}
+use Rattle.card.specs.declared.Card.{Card}
 use Rattle.card_call.specs.declared.Stepped.{Stepped}
-use Rattle.card_model.specs.Step.{Reply, answer}
+use Rattle.card.specs.Step.{Reply, answer}
 use Rattle.card_call.specs.Seen.{Seen, returned}
 use Rattle.card_call.specs.Replied.{replied}
 use Rattle.card_call.proofs.Turns.{after}

@@ -8,7 +8,7 @@ use borrow.Author.Tests.{eq-eqb, ne-eqb}
 use lib.Dec.{eqb}
 use lib.ListN.{length, getD, drop, drop-of-length-le}
 use lib.Seq.{drop-cons}
-use Rattle.card_model.specs.Soundness.{equal}
+use Rattle.card.specs.Soundness.{equal}
 
 module _ (a b : List ℕ) (i : ℕ) where
   equal-at : i < length a → i < length b → equal (drop i a) (drop i b) ≡ eqb (getD a i 0) (getD b i 0) && equal (drop (i + 1) a) (drop (i + 1) b)

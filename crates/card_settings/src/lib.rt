@@ -1,15 +1,15 @@
 // Sizes of the card, the settings that are allowed, and the CSD that they give.
 ghost use mathlib.Core.Path.{_≡_};
 ghost use Prim.Native.Nat.{_+_, _-_, _*_, _/_};
-ghost use Rattle.card_model.specs.declared.settings.Settings.{Settings};
-ghost use Rattle.card_model.specs.Settings.{BLOCK, GROUP, addressOf, allowed, csdOf};
+ghost use Rattle.card.specs.declared.Settings.{Settings};
+ghost use Rattle.card.specs.Settings.{BLOCK, GROUP, addressOf, allowed, csdOf};
 
 mod pair;
 pub mod register;
 
-use card_model::settings::Settings;
-use card_model::size::BLOCK;
-use card_model::size::GROUP;
+use card::Settings;
+use card::size::BLOCK;
+use card::size::GROUP;
 use reg_csd::Csd;
 
 // Limits of the block count and of the start polls.

@@ -1,6 +1,6 @@
 // The parts of a size pair.
 ghost use mathlib.Core.Path.{_≡_};
-ghost use Rattle.card_model.specs.Settings.{isPair, pairSize, pairMult};
+ghost use Rattle.card.specs.Settings.{isPair, pairSize, pairMult};
 use reg_size::SizePair;
 
 pub(crate) fn is_pair(p: SizePair) -> bool

@@ -1,7 +1,7 @@
 // Two CSDs with the same fields.
 ghost use mathlib.Core.Path.{_≡_};
 ghost use Rattle.reg_csd.specs.Csd.{csdValues};
-ghost use Rattle.card_model.specs.Soundness.{equal};
+ghost use Rattle.card.specs.Soundness.{equal};
 use reg_cid::content::flag;
 use reg_cid::content::wide;
 use reg_csd::Csd;

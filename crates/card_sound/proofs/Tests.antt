@@ -4,7 +4,7 @@ use mathlib.Core.Bool.{Bool, true, false, _||_}
 use mathlib.Core.List.{List, [], _∷_}
 use Prim.Native.Nat.{ℕ, zero, suc}
 use lib.ListN.{take, drop}
-use Rattle.card_model.specs.Soundness.{anyOf}
+use Rattle.card.specs.Soundness.{anyOf}
 
 pub holds : (b : Bool) (bs : List Bool) → b ≡ true → true ≡ anyOf (b ∷ bs)
 unfolding anyOf

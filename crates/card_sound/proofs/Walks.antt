@@ -10,7 +10,7 @@ use borrow.Author.Tests.{eq-eqb, ne-eqb}
 use lib.Dec.{eqb}
 use lib.ListN.{length, getD, drop, drop-of-length-le, List·getD-eq-default}
 use lib.Seq.{drop-cons}
-use Rattle.card_model.specs.Soundness.{anyByte, markedFrom}
+use Rattle.card.specs.Soundness.{anyByte, markedFrom}
 
 -- ---- some byte
 

@@ -1,13 +1,13 @@
 // Which records are unsound.
 ghost use mathlib.Core.Path.{_≡_};
 ghost use lib.ListN.{take, drop};
-ghost use Rattle.card_model.specs.Soundness.{unsound, unsoundTests, anyOf};
+ghost use Rattle.card.specs.Soundness.{unsound, unsoundTests, anyOf};
 
 mod marks;
 mod state;
 
-use card_model::card::Core;
-use card_model::size::BLOCK;
+use card::Core;
+use card::size::BLOCK;
 use card_settings::allowed;
 use card_settings::capacity;
 use card_settings::csd_of;

@@ -1,7 +1,7 @@
 // The protection marks behind the last group.
 ghost use mathlib.Core.Path.{_≡_};
 ghost use lib.ListN.{drop};
-ghost use Rattle.card_model.specs.Soundness.{anyByte, markedFrom};
+ghost use Rattle.card.specs.Soundness.{anyByte, markedFrom};
 
 // Some byte from a place on is not zero. It looks at all of them, many at once.
 fn any_byte(marks: &[u8], start: usize) -> bool

@@ -1,9 +1,9 @@
 // What is asked of the transfer, of an erase mark, and of the number of a state.
 ghost use mathlib.Core.Path.{_≡_};
-ghost use Rattle.card_model.specs.Soundness.{offWrite, writtenMost, markOutside, badRca, badApp};
-use card_model::card::EraseMark;
-use card_model::size::BLOCK;
-use card_model::state::Open;
+ghost use Rattle.card.specs.Soundness.{offWrite, writtenMost, markOutside, badRca, badApp};
+use card::EraseMark;
+use card::Open;
+use card::size::BLOCK;
 use card_state::sink_address;
 
 const READY: u8 = 1;

@@ -1,13 +1,13 @@
 // Start checks, in their order: the number of the bit of the first that fails, 0 for none.
 ghost use mathlib.Core.Path.{_≡_};
-ghost use Rattle.card_model.specs.Checks.{outside, firstFailure, addressChecks, readChecks, writeChecks};
+ghost use Rattle.card.specs.Checks.{outside, firstFailure, addressChecks, readChecks, writeChecks};
 ghost use Rattle.codec.specs.Answer.{nonzero};
 ghost use Rattle.card_start.specs.Outcome.{outcome};
 use crate::done::ran;
-use card_model::card::Core;
-use card_model::done::Done;
-use card_model::done::Response;
-use card_model::size::BLOCK;
+use card::Core;
+use card::done::Done;
+use card::done::Response;
+use card::size::BLOCK;
 use card_record::raise;
 use card_status::ADDRESS_ERROR;
 use card_status::BLOCK_LEN_ERROR;

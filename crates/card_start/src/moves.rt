@@ -1,12 +1,12 @@
 // A move by the transition table, to the state that the command's row gives.
 ghost use mathlib.Core.Path.{_≡_};
-ghost use Rattle.card_model.specs.Execute.{ran, moved, opening};
+ghost use Rattle.card.specs.Execute.{ran, moved, opening};
 use crate::done::ran;
-use card_model::card::Core;
-use card_model::command::Command;
-use card_model::done::Done;
-use card_model::done::Response;
-use card_model::state::State;
+use card::Core;
+use card::State;
+use card::command::Command;
+use card::done::Done;
+use card::done::Response;
 use card_record::with_state;
 use card_table::after;
 

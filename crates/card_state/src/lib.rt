@@ -1,11 +1,11 @@
 // The number of a state, and what it has open: every question that is asked of a state goes by these.
 ghost use mathlib.Core.Path.{_≡_};
 ghost use Prim.Native.Nat.{_≤_};
-ghost use Rattle.card_model.specs.State.{number, arrive, openOf, reading, writing, busy, sourceAddress, sinkAddress, transferAddress, sink};
-use card_model::state::Open;
-use card_model::state::Sink;
-use card_model::state::Source;
-use card_model::state::State;
+ghost use Rattle.card.specs.State.{number, arrive, openOf, reading, writing, busy, sourceAddress, sinkAddress, transferAddress, sink};
+use card::Open;
+use card::Sink;
+use card::Source;
+use card::State;
 
 pub fn number(s: State) -> u8
     ensures { λ r. ⌜ (r ≡ number s) × (r ≤ 9) ⌝ }

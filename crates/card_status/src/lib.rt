@@ -2,8 +2,8 @@
 pub mod word;
 
 ghost use mathlib.Core.Path.{_≡_};
-ghost use Rattle.card_model.specs.Status.{only, noBits, join, withoutIllegal};
-use card_model::card::Kept;
+ghost use Rattle.card.specs.Status.{only, noBits, join, withoutIllegal};
+use card::Kept;
 
 // The standard's numbers.
 pub const OUT_OF_RANGE: u8 = 31;

@@ -2,9 +2,9 @@
 ghost use mathlib.Core.Path.{_≡_};
 ghost use mathlib.Core.Bool.{true, false};
 ghost use Prim.Native.Nat.{_+_, _^_, _≤_, _<_};
-ghost use Rattle.card_model.specs.State.{readyFor};
-ghost use Rattle.card_model.specs.Status.{at, status};
-use card_model::card::Kept;
+ghost use Rattle.card.specs.State.{readyFor};
+ghost use Rattle.card.specs.Status.{at, status};
+use card::Kept;
 
 const PRG: u8 = 7;
 

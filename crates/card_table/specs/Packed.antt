@@ -2,8 +2,8 @@
 use mathlib.Core.Bool.{cond}
 use mathlib.Core.List.{List}
 use Prim.Native.Nat.{ℕ, zero, suc, _+_, _*_}
-use Rattle.card_model.specs.declared.command.Command.{Command}
-use Rattle.card_model.specs.Table.{Move, has, lead, row}
+use Rattle.card.specs.declared.command.Command.{Command}
+use Rattle.card.specs.Table.{Move, has, lead, row}
 use Rattle.card_table.specs.declared.Columns.{Columns}
 
 -- the state that a row leads to; 15 where it has no move

@@ -1,12 +1,12 @@
 // The transition table: a row for each command.
 ghost use mathlib.Core.Path.{_≡_};
 ghost use Prim.Native.Nat.{_≤_};
-ghost use Rattle.card_model.specs.Table.{row, moves, showsApp, setsApp, misses, legal, after};
+ghost use Rattle.card.specs.Table.{row, moves, showsApp, setsApp, misses, legal, after};
 ghost use Rattle.card_table.specs.Packed.{leadOr, packedRow};
-use card_model::command::Command;
-use card_model::command::Kind;
-use card_model::command::Rca;
-use card_model::state::State;
+use card::State;
+use card::command::Command;
+use card::command::Kind;
+use card::command::Rca;
 use card_state::arrive;
 use card_state::number;
 

@@ -9,13 +9,13 @@ use Rattle.crc.specs.Bits.{bytes}
 use Rattle.crc.proofs.Bits.{length-bytes}
 use Rattle.wire_packet.specs.Packet.{CHECK, encodePacket}
 use Rattle.wire_packet.proofs.Answers.{encode-done}
-use Rattle.card_model.specs.declared.card.Core.{Core}
-use Rattle.card_model.specs.declared.card.Card.{Card}
-use Rattle.card_model.specs.Settings.{BLOCK}
-use Rattle.card_model.specs.Effects.{affected}
-use Rattle.card_model.specs.Frame.{block}
-use Rattle.card_model.specs.Data.{said}
-use Rattle.card_model.specs.Step.{wire, replyOf, flagged, show}
+use Rattle.card.specs.declared.Core.{Core}
+use Rattle.card.specs.declared.Card.{Card}
+use Rattle.card.specs.Settings.{BLOCK}
+use Rattle.card.specs.Effects.{affected}
+use Rattle.card.specs.Frame.{block}
+use Rattle.card.specs.Data.{said}
+use Rattle.card.specs.Step.{wire, replyOf, flagged, show}
 use Rattle.card_call.specs.declared.Stepped.{Stepped}
 use Rattle.card_call.specs.Seen.{returned, turned}
 use Rattle.card_call.proofs.Turns.{same-marks}

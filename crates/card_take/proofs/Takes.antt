@@ -10,18 +10,18 @@ use denote.Enum.Declared.{tagOf}
 use borrow.Author.Tests.{ltb-false}
 use lib.Dec.{ltb}
 use lib.ListN.{length}
-use Rattle.card_model.specs.declared.state.Open as Open
-use Rattle.card_model.specs.declared.state.Open.{Open}
-use Rattle.card_model.specs.declared.card.Core.{Core}
-use Rattle.card_model.specs.declared.done.Flag.the-variants.{Keep}
-use Rattle.card_model.specs.Settings.{BLOCK}
-use Rattle.card_model.specs.Status.{OUT-OF-RANGE, ADDRESS-ERROR}
-use Rattle.card_model.specs.Frame.{Turn, quiet}
-use Rattle.card_model.specs.Data.{takeFrom}
-use Rattle.card_model.specs.Step.{TAKE-ROWS, applies, refusal, blockRoom}
+use Rattle.card.specs.declared.Open as Open
+use Rattle.card.specs.declared.Open.{Open}
+use Rattle.card.specs.declared.Core.{Core}
+use Rattle.card.specs.declared.done.Flag.the-variants.{Keep}
+use Rattle.card.specs.Settings.{BLOCK}
+use Rattle.card.specs.Status.{OUT-OF-RANGE, ADDRESS-ERROR}
+use Rattle.card.specs.Frame.{Turn, quiet}
+use Rattle.card.specs.Data.{takeFrom}
+use Rattle.card.specs.Step.{TAKE-ROWS, applies, refusal, blockRoom}
 use Rattle.card_refuse.specs.Rows.{rowsOf}
-use Rattle.card_model.proofs.state.Open.{the-type}
-use Rattle.card_model.proofs.Facts.{facts-sound}
+use Rattle.card.proofs.Open.{the-type}
+use Rattle.card.proofs.Facts.{facts-sound}
 use Rattle.card_refuse.proofs.Passed.{passed, sized}
 use Rattle.card_take.specs.Takes.{Takes}
 

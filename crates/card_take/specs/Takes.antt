@@ -2,9 +2,9 @@
 use mathlib.Core.List.{List}
 use Prim.Native.Nat.{ℕ, _≤_}
 use lib.ListN.{length}
-use Rattle.card_model.specs.declared.card.Core.{Core}
-use Rattle.card_model.specs.Settings.{BLOCK}
-use Rattle.card_model.specs.Step.{blockRoom}
+use Rattle.card.specs.declared.Core.{Core}
+use Rattle.card.specs.Settings.{BLOCK}
+use Rattle.card.specs.Step.{blockRoom}
 use Rattle.card_refuse.specs.Rows.{Sized}
 
 pub record Takes (c : Core) (memory out : List ℕ) : Type 0 where

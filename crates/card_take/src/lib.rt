@@ -1,16 +1,16 @@
 // Take a block. The record by value and back; memory and the output buffer are lent.
 ghost use mathlib.Core.Path.{_≡_};
-ghost use Rattle.card_model.specs.Step.{takeBlock};
+ghost use Rattle.card.specs.Step.{takeBlock};
 ghost use Rattle.card_call.specs.Seen.{returned, stepped};
 
 mod turn;
 
+use card::Card;
+use card::Open;
+use card::answer::Answer;
+use card::size::BLOCK;
 use card_call::Stepped;
 use card_call::refused;
-use card_model::answer::Answer;
-use card_model::card::Card;
-use card_model::size::BLOCK;
-use card_model::state::Open;
 use card_refuse::refusal;
 use card_refuse::rows;
 use wire_packet::CHECK;

@@ -1,5 +1,5 @@
 // The console's own calls of the card: a power-up with any settings, and a block of any size.
-use card_model::card::Card;
+use card::Card;
 use console_memory::lent;
 use console_read::SettingsRead;
 use replay_answer::Replayed;

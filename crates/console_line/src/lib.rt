@@ -1,5 +1,5 @@
 // A console's line, played: its own words here, and every other line as in the replay program.
-use card_model::card::Card;
+use card::Card;
 use console_answer::block;
 use console_answer::power;
 use console_memory::lent;

@@ -1,8 +1,8 @@
 // The console's memory: what is lent of it, and a block of it on a line.
 ghost use mathlib.Core.Path.{_≡_};
 ghost use Prim.Native.Nat.{_*_, _≤_, min};
-use card_model::answer::Answer;
-use card_model::size::BLOCK;
+use card::answer::Answer;
+use card::size::BLOCK;
 use codec::Encoded;
 use codec::word32;
 use replay_read::hex::unhex;

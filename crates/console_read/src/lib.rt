@@ -1,5 +1,5 @@
 // The settings of a power-up, as its line has them.
-use card_model::settings::Settings;
+use card::Settings;
 use codec::word;
 use codec::word32;
 use reg_cid::cid::fields;

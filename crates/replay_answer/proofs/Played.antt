@@ -2,9 +2,9 @@
 use mathlib.Core.Path.{_≡_, ap, _∙_}
 use mathlib.Core.List.{List, []}
 use Prim.Native.Nat.{ℕ}
-use Rattle.card_model.specs.declared.answer.Answer.the-variants.{Refused}
-use Rattle.card_model.specs.declared.card.Card.{Card}
-use Rattle.card_model.specs.Step.{world}
+use Rattle.card.specs.declared.answer.Answer.the-variants.{Refused}
+use Rattle.card.specs.declared.Card.{Card}
+use Rattle.card.specs.Step.{world}
 use Rattle.card_call.specs.declared.Stepped.{Stepped}
 use Rattle.card_call.specs.Seen.{Seen, returned}
 use Rattle.replay_write.specs.declared.Kind.{Kind}

@@ -7,10 +7,10 @@ use borrow.Author.Tests.{eq-eqb}
 use lib.ListN.{length}
 use Rattle.codec.specs.Layout.{fits}
 use Rattle.reg_size.specs.Size.{divides, pairFrom, sizePair}
-use Rattle.card_model.specs.declared.card.Card.{Card}
-use Rattle.card_model.specs.Settings.{capacity, allowed}
-use Rattle.card_model.specs.Step.{start, applies, refusal, powerUp, poweredUp, step}
-use Rattle.card_model.specs.Bench.{bench}
+use Rattle.card.specs.declared.Card.{Card}
+use Rattle.card.specs.Settings.{capacity, allowed}
+use Rattle.card.specs.Step.{start, applies, refusal, powerUp, poweredUp, step}
+use Rattle.card.specs.Bench.{bench}
 use Rattle.card_call.specs.declared.Stepped.{Stepped}
 use Rattle.card_call.specs.Seen.{Seen, returned, stepped}
 

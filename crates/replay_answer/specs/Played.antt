@@ -2,7 +2,7 @@
 use mathlib.Core.List.{List}
 use Prim.Native.Nat.{ℕ}
 use Rattle.codec.specs.Answer.{Encoding, encoding}
-use Rattle.card_model.specs.Step.{World}
+use Rattle.card.specs.Step.{World}
 use Rattle.card_call.specs.Seen.{Seen}
 use Rattle.replay_write.specs.declared.Kind.{Kind}
 use Rattle.replay_write.specs.Write.{written, fitted}

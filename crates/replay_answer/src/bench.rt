@@ -1,10 +1,10 @@
 // The card of the bench.
 ghost use mathlib.Core.Path.{_≡_};
 ghost use lib.ListN.{length, replicate};
-ghost use Rattle.card_model.specs.Step.{start};
-ghost use Rattle.card_model.specs.Bench.{bench};
-use card_model::card::Card;
-use card_model::settings::Settings;
+ghost use Rattle.card.specs.Step.{start};
+ghost use Rattle.card.specs.Bench.{bench};
+use card::Card;
+use card::Settings;
 use reg_cid::cid::Cid;
 
 // Its memory, zero at first.

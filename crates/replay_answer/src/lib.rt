@@ -3,7 +3,7 @@ ghost use mathlib.Core.Path.{_≡_};
 ghost use mathlib.Core.List.{List};
 ghost use Prim.Native.Nat.{ℕ};
 ghost use lib.ListN.{replicate};
-ghost use Rattle.card_model.specs.Step.{world, blockIn, takeBlock, busyOver};
+ghost use Rattle.card.specs.Step.{world, blockIn, takeBlock, busyOver};
 ghost use Rattle.card_call.specs.Seen.{returned, stepped};
 ghost use Rattle.replay_write.specs.declared.Kind.the-variants.{Response, Block};
 ghost use Rattle.replay_write.specs.Write.{refusal};
@@ -11,9 +11,9 @@ ghost use Rattle.replay_answer.specs.Played.{played, shown, onText};
 
 pub mod bench;
 
+use card::Card;
 use card_call::Stepped;
 use card_call::refused;
-use card_model::card::Card;
 use codec::Encoded;
 use replay_write::Kind;
 

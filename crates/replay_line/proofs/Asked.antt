@@ -5,7 +5,7 @@ use Prim.Native.Nat.{ℕ, _<_, _≤_}
 use borrow.Author.Tests.{le-ltb, lt-ltb}
 use lib.ListN.{length, take, replicate}
 use Rattle.codec.specs.Answer.{BUFFER, refuse}
-use Rattle.card_model.specs.Step.{World, step, commandFrame, blockIn, takeBlock, busyOver}
+use Rattle.card.specs.Step.{World, step, commandFrame, blockIn, takeBlock, busyOver}
 use Rattle.card_call.specs.Seen.{seen}
 use Rattle.replay_read.specs.declared.Input.{Input}
 use Rattle.replay_read.specs.declared.Word.the-variants.{Cmd, Blk, Take, Over, Unreadable}

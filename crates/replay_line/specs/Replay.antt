@@ -5,7 +5,7 @@ use Prim.Native.Nat.{ℕ}
 use lib.Dec.{ltb}
 use lib.ListN.{length, replicate}
 use Rattle.codec.specs.Answer.{BUFFER, refuse}
-use Rattle.card_model.specs.Step.{World, commandFrame, blockIn, takeBlock, busyOver, step}
+use Rattle.card.specs.Step.{World, commandFrame, blockIn, takeBlock, busyOver, step}
 use Rattle.card_call.specs.Seen.{seen}
 use Rattle.replay_read.specs.Read.{Request, cmd, blk, bareTake, bareOver, unreadable, readLine}
 use Rattle.replay_write.specs.declared.Kind.the-variants.{Response, Block}

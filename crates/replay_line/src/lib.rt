@@ -1,12 +1,12 @@
 // The replay of lines on the card: each line of input gives one call, and one line of output.
 ghost use mathlib.Core.Path.{_≡_};
 ghost use lib.ListN.{take, replicate};
-ghost use Rattle.card_model.specs.Step.{commandFrame};
+ghost use Rattle.card.specs.Step.{commandFrame};
 ghost use Rattle.card_call.specs.Seen.{stepped};
 ghost use Rattle.replay_write.specs.declared.Kind.the-variants.{Response};
 ghost use Rattle.replay_answer.specs.Played.{played, shown, onText};
 ghost use Rattle.replay_line.specs.Replay.{playLine};
-use card_model::card::Card;
+use card::Card;
 use codec::Encoded;
 use replay_answer::Replayed;
 use replay_answer::answer_line;

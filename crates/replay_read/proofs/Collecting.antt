@@ -8,7 +8,7 @@ use borrow.Author.Tests.{ltb-true, ltb-false}
 use lib.Dec.{ltb}
 use lib.ListN.{length, take, set, length-append, length-take, length-set}
 use lib.Seq.{take-all, take-suc-set, take-append-le}
-use Rattle.card_model.proofs.Choices.{cond-elim}
+use Rattle.card.proofs.Choices.{cond-elim}
 use Rattle.replay_read.specs.Read.{LONGEST, readLine}
 use Rattle.replay_read.specs.Keep.{Collected, collected, keepByte, keepAll, kept}
 use Rattle.replay_read.proofs.Longest.{front-enough}

@@ -9,8 +9,8 @@ use borrow.Author.Tests.{eq-eqb, ne-eqb, eqb-true}
 use lib.Dec.{eqb}
 use lib.ListN.{length, take, drop, replicate, length-replicate, replicate-append-replicate}
 use lib.Seq.{take-at, drop-at}
-use Rattle.card_model.specs.Soundness.{equal}
-use Rattle.card_model.proofs.Choices.{cond-elim, cond-either}
+use Rattle.card.specs.Soundness.{equal}
+use Rattle.card.proofs.Choices.{cond-elim, cond-either}
 use Rattle.replay_read.specs.declared.Word.{Word}
 use Rattle.replay_read.specs.declared.Word.the-variants.{Unreadable}
 use Rattle.replay_read.specs.Hex.{allHex, unhex}

@@ -4,7 +4,7 @@ use mathlib.Core.Bool.{true, false}
 use mathlib.Core.List.{List, []}
 use Prim.Native.Nat.{ℕ, _-_}
 use lib.ListN.{length, take, drop}
-use Rattle.card_model.specs.Soundness.{equal}
+use Rattle.card.specs.Soundness.{equal}
 use Rattle.replay_read.specs.declared.Word.the-variants.{Cmd, Blk, Take, Over, Unreadable}
 use Rattle.replay_read.specs.declared.Input.{Input}
 use Rattle.replay_read.specs.Read.{cmd, blk, CMD, BLK, TAKE, OVER, input, held, heldField, readLine}

@@ -8,8 +8,8 @@ use borrow.Author.Tests.{lt-ltb, le-leb, lt-leb, eq-eqb, ltb-true, ltb-false}
 use lib.Dec.{ltb}
 use lib.ListN.{length}
 use Rattle.crc.specs.Bits.{Bytes}
-use Rattle.card_model.specs.Soundness.{equal}
-use Rattle.card_model.proofs.Choices.{cond-elim}
+use Rattle.card.specs.Soundness.{equal}
+use Rattle.card.proofs.Choices.{cond-elim}
 use Rattle.replay_read.specs.Hex.{hexDigit, hex, hexValue, allHex, unhex}
 use Rattle.replay_read.specs.Read.{Request, cmd, blk, CMD, BLK, field, readLine}
 use Rattle.replay_read.proofs.Digits.{length-hex}

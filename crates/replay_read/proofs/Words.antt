@@ -11,7 +11,7 @@ use lib.Dec.{eqb}
 use lib.ListN.{length, getD, take, drop, set, length-take, length-drop, drop-of-length-le}
 use lib.Seq.{drop-cons, take-all}
 use Rattle.io.specs.Counts.{Counts}
-use Rattle.card_model.specs.Soundness.{equal}
+use Rattle.card.specs.Soundness.{equal}
 
 -- lists of two lengths differ
 pub lengths-differ : (a b : List ℕ) → (length a ≡ length b → ⊥) → equal a b ≡ false

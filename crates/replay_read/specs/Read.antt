@@ -4,7 +4,7 @@ use mathlib.Core.List.{List, [], _∷_, _++_}
 use Prim.Native.Nat.{ℕ, _-_}
 use lib.Dec.{eqb}
 use lib.ListN.{length, take, drop, replicate}
-use Rattle.card_model.specs.Soundness.{equal}
+use Rattle.card.specs.Soundness.{equal}
 use Rattle.replay_read.specs.Hex.{allHex, unhex}
 use Rattle.replay_read.specs.declared.Word.{Word}
 use Rattle.replay_read.specs.declared.Word.the-variants.{Cmd, Blk, Take, Over, Unreadable}

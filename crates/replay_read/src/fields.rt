@@ -3,7 +3,7 @@ ghost use mathlib.Core.Path.{_≡_};
 ghost use mathlib.Core.List.{[]};
 ghost use Prim.Native.Nat.{_*_, _≤_};
 ghost use lib.ListN.{length, take};
-ghost use Rattle.card_model.specs.Soundness.{equal};
+ghost use Rattle.card.specs.Soundness.{equal};
 ghost use Rattle.replay_read.specs.Read.{input, heldField};
 use crate::Input;
 use crate::Word;

@@ -9,8 +9,8 @@ use lib.Dec.{ltb}
 use lib.ListN.{length, take, drop, length-drop, drop-of-length-le}
 use lib.Seq.{take-all}
 use Rattle.codec.specs.Answer.{Encoding, encoded}
-use Rattle.card_model.specs.Step.{World, world}
-use Rattle.card_model.proofs.Choices.{cond-elim}
+use Rattle.card.specs.Step.{World, world}
+use Rattle.card.proofs.Choices.{cond-elim}
 use Rattle.replay_read.specs.Keep.{collected}
 use Rattle.replay_write.specs.Write.{fitted, ROOM, size, place}
 use Rattle.replay_answer.specs.declared.Replayed.{Replayed}

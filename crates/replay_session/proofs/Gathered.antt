@@ -9,7 +9,7 @@ use lib.Dec.{leb, ltb}
 use lib.ListN.{length, take, drop, length-append, length-take, length-drop}
 use lib.Seq.{take-at, length-take-le}
 use Rattle.codec.specs.Answer.{Encoding}
-use Rattle.card_model.proofs.Choices.{cond-elim}
+use Rattle.card.proofs.Choices.{cond-elim}
 use Rattle.replay_read.specs.Keep.{Collected, kept}
 use Rattle.replay_write.specs.Write.{fitted, ROOM, place}
 use Rattle.replay_session.specs.Session.{placeIn, gathered}

@@ -6,7 +6,7 @@ use native.Mathlib.Numerals.{add-one}
 use borrow.Author.Tests.{eq-eqb, ne-eqb}
 use lib.ListN.{length, getD, drop, drop-of-length-le}
 use lib.Seq.{drop-cons}
-use Rattle.card_model.specs.Step.{world}
+use Rattle.card.specs.Step.{world}
 use Rattle.replay_read.specs.Keep.{Collected, collected, keepByte}
 use Rattle.replay_answer.specs.declared.Session.{Session}
 use Rattle.replay_session.specs.Session.{SessionState, NEWLINE, lineEnded, heard, heardAll, session}

@@ -7,7 +7,7 @@ use native.Mathlib.Omega.{arith}
 use borrow.Author.Tests.{le-ltb}
 use lib.Dec.{eqb}
 use lib.ListN.{length, drop, length-append}
-use Rattle.card_model.specs.Step.{World}
+use Rattle.card.specs.Step.{World}
 use Rattle.replay_read.specs.Read.{Request, LONGEST, readLine}
 use Rattle.replay_read.specs.Keep.{Collected, collected, keepByte, keepAll, kept}
 use Rattle.replay_read.proofs.Laws.{keep-laws}

@@ -4,7 +4,7 @@ use mathlib.Core.Bool.{true}
 use mathlib.Core.List.{List, _++_}
 use Prim.Native.Nat.{ℕ, _+_, _≤_}
 use lib.ListN.{length}
-use Rattle.card_model.specs.Step.{World}
+use Rattle.card.specs.Step.{World}
 use Rattle.replay_read.specs.Read.{LONGEST, readLine}
 use Rattle.replay_read.specs.Keep.{collected, kept}
 use Rattle.replay_write.specs.Write.{ROOM}

@@ -5,7 +5,7 @@ use Prim.Native.Nat.{ℕ, _+_}
 use lib.Dec.{eqb}
 use lib.ListN.{length, take, drop}
 use Rattle.codec.specs.Answer.{Encoding}
-use Rattle.card_model.specs.Step.{World, world}
+use Rattle.card.specs.Step.{World, world}
 use Rattle.replay_read.specs.Keep.{Collected, collected, keepByte, kept}
 use Rattle.replay_write.specs.Write.{size, place}
 use Rattle.replay_answer.specs.Played.{Shown}

@@ -5,8 +5,8 @@ use Prim.Native.Nat.{ℕ, _+_, _/_, _%_}
 use lib.Dec.{eqb, leb, ltb}
 use lib.ListN.{length, take}
 use Rattle.codec.specs.Answer.{Outcome, done, refused, BUFFER, Encoding, refuse, emit}
-use Rattle.card_model.specs.Data.{ACCEPTED}
-use Rattle.card_model.specs.Step.{Reply, silent, sent, answered, over}
+use Rattle.card.specs.Data.{ACCEPTED}
+use Rattle.card.specs.Step.{Reply, silent, sent, answered, over}
 use Rattle.replay_read.specs.Hex.{hex}
 use Rattle.replay_write.specs.declared.Kind.{Kind}
 use Rattle.replay_write.specs.declared.Kind.the-variants.{Response, Block, Memory}

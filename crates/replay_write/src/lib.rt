@@ -3,13 +3,13 @@ ghost use mathlib.Core.Path.{_≡_};
 ghost use Prim.Native.Nat.{_+_, _≤_, min};
 ghost use lib.ListN.{length, replicate};
 ghost use Rattle.codec.specs.Answer.{encoded, encoding};
-ghost use Rattle.card_model.specs.Step as Step;
+ghost use Rattle.card.specs.Step as Step;
 ghost use Rattle.replay_write.specs.Write.{writeLine, ROOM, size, place};
 
 mod hex;
 mod text;
 
-use card_model::answer::Answer;
+use card::answer::Answer;
 use codec::Encoded;
 use replay_read::front;
 use text::bytes_line;

@@ -3,8 +3,8 @@ use mathlib.Core.Path.{_≡_, refl, sym, ap, _∙_}
 use mathlib.Core.List.{List}
 use Prim.Native.Nat.{ℕ, suc, _+_, _-_, _<_, _≤_}
 use native.Mathlib.Omega.{arith}
-use Rattle.card_model.specs.declared.card.Card.{Card}
-use Rattle.card_model.specs.Step.{World, world, Call, answer, step}
+use Rattle.card.specs.declared.Card.{Card}
+use Rattle.card.specs.Step.{World, world, Call, answer, step}
 use Rattle.card_call.specs.declared.Stepped.{Stepped}
 use Rattle.card_call.specs.Seen.{Seen, returned, stepped, seen}
 use Rattle.speed_open.proofs.Frames.{worldOf}

@@ -4,8 +4,8 @@ use mathlib.Core.List.{List, [], _∷_}
 use Prim.Native.Nat.{ℕ, zero, suc, _+_}
 use lib.Dec.{eqb}
 use Rattle.codec.specs.Answer.{Outcome, done, refused}
-use Rattle.card_model.specs.Data.{ACCEPTED}
-use Rattle.card_model.specs.Step.{World, Call, blockIn, Reply, silent, sent, answered, over, step}
+use Rattle.card.specs.Data.{ACCEPTED}
+use Rattle.card.specs.Step.{World, Call, blockIn, Reply, silent, sent, answered, over, step}
 
 -- 18 and 25, both from address 0
 abbrev pub READ : List ℕ

@@ -2,12 +2,12 @@
 ghost use mathlib.Core.Path.{_≡_};
 ghost use mathlib.Core.List.{[]};
 ghost use Prim.Native.Nat.{_≤_};
-ghost use Rattle.card_model.specs.Step.{answer, takeBlock};
+ghost use Rattle.card.specs.Step.{answer, takeBlock};
 ghost use Rattle.speed_open.specs.Begun.{begun};
-ghost use Rattle.card_model.specs.Step.{world};
+ghost use Rattle.card.specs.Step.{world};
 ghost use Rattle.speed_card.specs.Blocks.{READ, WRITE, right, ran, many, again};
-use card_model::answer::Answer;
-use card_model::card::Card;
+use card::Card;
+use card::answer::Answer;
 
 // 1 where a whole block was sent, or one was accepted.
 fn right(a: Answer) -> u32

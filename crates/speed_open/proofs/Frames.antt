@@ -2,7 +2,7 @@
 use mathlib.Core.Path.{_≡_, ap, _∙_}
 use mathlib.Core.List.{List}
 use Prim.Native.Nat.{ℕ}
-use Rattle.card_model.specs.Step.{World, world}
+use Rattle.card.specs.Step.{World, world}
 use Rattle.card_call.specs.Seen.{Seen}
 use Rattle.speed_open.specs.Begun.{heard}
 

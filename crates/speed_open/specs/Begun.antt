@@ -3,9 +3,9 @@ use mathlib.Core.Bool.{false}
 use mathlib.Core.List.{List, [], _∷_}
 use Prim.Native.Nat.{ℕ, _/_, _%_, _^_}
 use lib.ListN.{length, replicate}
-use Rattle.card_model.specs.declared.settings.Settings.{Settings}
-use Rattle.card_model.specs.Settings.{BLOCK}
-use Rattle.card_model.specs.Step.{World, world, powerUp, commandFrame, ROOM, next, unpowered}
+use Rattle.card.specs.declared.Settings.{Settings}
+use Rattle.card.specs.Settings.{BLOCK}
+use Rattle.card.specs.Step.{World, world, powerUp, commandFrame, ROOM, next, unpowered}
 
 -- a block count that memory gives, no polls, CID zero, unprotected
 abbrev pub settings : ℕ → Settings

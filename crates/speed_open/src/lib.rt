@@ -1,9 +1,9 @@
 // A card that is brought to tran and given a command.
 ghost use mathlib.Core.Path.{_≡_};
 ghost use Rattle.speed_open.specs.Begun.{settings, powered, heard, begun};
-ghost use Rattle.card_model.specs.Step.{world};
-use card_model::card::Card;
-use card_model::settings::Settings;
+ghost use Rattle.card.specs.Step.{world};
+use card::Card;
+use card::Settings;
 use reg_cid::cid::Cid;
 
 // Unprotected, no polls, CID zero.
@@ -19,7 +19,7 @@ fn settings(bytes: usize) -> Settings
         mdt: 0,
     };
     Settings {
-        blocks: (bytes / card_model::size::BLOCK as usize % 0x1_0000_0000) as u32,
+        blocks: (bytes / card::size::BLOCK as usize % 0x1_0000_0000) as u32,
         polls: 0,
         cid: cid,
         permanent: false,

@@ -5,10 +5,10 @@ use mathlib.Core.List.{[]}
 use borrow.Author.Needs.{needs}
 use lib.Dec.{eqb}
 use lib.ListN.{length}
-use Rattle.card_model.specs.declared.state.Open.{Open}
-use Rattle.card_model.specs.State.{openOf, writing}
-use Rattle.card_model.specs.Data.{writeInto, blockInto}
-use Rattle.card_model.specs.Step.{step, given, blockSize}
+use Rattle.card.specs.declared.Open.{Open}
+use Rattle.card.specs.State.{openOf, writing}
+use Rattle.card.specs.Data.{writeInto, blockInto}
+use Rattle.card.specs.Step.{step, given, blockSize}
 use Rattle.card_call.specs.Seen.{turned}
 use Rattle.card_refuse.specs.Rows.{rowsOf}
 use Rattle.card_refuse.proofs.Refusals.{none-applies, refuses, runs}

@@ -1,8 +1,8 @@
 -- Refused, or what the frame comes to.
 use mathlib.Core.Path.{ap, _∙_}
 use borrow.Author.Needs.{needs}
-use Rattle.card_model.specs.Frame.{Turn}
-use Rattle.card_model.specs.Step.{world, show, step, framed}
+use Rattle.card.specs.Frame.{Turn}
+use Rattle.card.specs.Step.{world, show, step, framed}
 use Rattle.card_call.specs.Seen.{seen}
 use Rattle.card_refuse.proofs.Refusals.{none-applies, refuses, runs}
 use Rattle.card_command.proofs.Calls.{shows}

@@ -1,6 +1,6 @@
 -- Each effect by its own function.
 use borrow.Author.Needs.{needs}
-use Rattle.card_model.specs.Effects.{affected}
+use Rattle.card.specs.Effects.{affected}
 use Rattle.card_effect.proofs.Did.{did-store, did-sweep, did-mark}
 use Rattle.card_effect.proofs.apply.Statement.{statement}
 use Rattle.card_effect.proofs.apply.Tie as tie

@@ -5,8 +5,8 @@ use native.Mathlib.Omega.{arith}
 use borrow.Author.Needs.{needs}
 use borrow.Author.Tests.{le-leb, lt-leb}
 use lib.ListN.{length}
-use Rattle.card_model.specs.Settings.{BLOCK}
-use Rattle.card_model.specs.Effects.{swept}
+use Rattle.card.specs.Settings.{BLOCK}
+use Rattle.card.specs.Effects.{swept}
 use Rattle.card_effect.proofs.Sweeps.{swept-more, swept-end}
 use Rattle.card_effect.proofs.sweep.Statement.{statement}
 use Rattle.card_effect.proofs.sweep.Tie as tie

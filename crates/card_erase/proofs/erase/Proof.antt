@@ -3,10 +3,10 @@ use mathlib.Core.Path.{sym, ap, ap₂, _∙_}
 use Prim.Native.Nat.{_<_, _≤_}
 use native.Mathlib.Omega.{arith}
 use borrow.Author.Tests.{not-true, not-false, lt-ltb, le-ltb}
-use Rattle.card_model.specs.declared.card.Core.{Core}
-use Rattle.card_model.specs.declared.done.Response.the-variants.{R1}
-use Rattle.card_model.specs.Record.{address}
-use Rattle.card_model.specs.Execute.{ran, dropErase, erased, erase}
+use Rattle.card.specs.declared.Core.{Core}
+use Rattle.card.specs.declared.done.Response.the-variants.{R1}
+use Rattle.card.specs.Record.{address}
+use Rattle.card.specs.Execute.{ran, dropErase, erased, erase}
 use borrow.Author.Needs.{needs}
 use Rattle.card_erase.proofs.erase.Statement.{statement}
 use Rattle.card_erase.proofs.erase.Tie as tie

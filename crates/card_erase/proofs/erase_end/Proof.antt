@@ -3,11 +3,11 @@ use mathlib.Core.Path.{_≡_, sym, ap, ap₂, _∙_}
 use mathlib.Core.Bool.{true, false}
 use Prim.Native.Nat.{ℕ}
 use borrow.Author.Tests.{not-true, not-false}
-use Rattle.card_model.specs.declared.card.Core.{Core}
-use Rattle.card_model.specs.declared.done.Response.the-variants.{R1}
-use Rattle.card_model.specs.Record.{isSet}
-use Rattle.card_model.specs.Checks.{firstFailure, addressChecks}
-use Rattle.card_model.specs.Execute.{ran, dropErase, eraseEnd}
+use Rattle.card.specs.declared.Core.{Core}
+use Rattle.card.specs.declared.done.Response.the-variants.{R1}
+use Rattle.card.specs.Record.{isSet}
+use Rattle.card.specs.Checks.{firstFailure, addressChecks}
+use Rattle.card.specs.Execute.{ran, dropErase, eraseEnd}
 use Rattle.card_start.specs.Outcome.{outcome}
 use borrow.Author.Needs.{needs}
 use Rattle.card_erase.proofs.erase_end.Statement.{statement}

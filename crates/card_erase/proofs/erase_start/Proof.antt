@@ -1,10 +1,10 @@
 -- The start check, and the first mark.
 use mathlib.Core.Path.{ap, ap₂, _∙_}
 use Prim.Native.Nat.{ℕ}
-use Rattle.card_model.specs.declared.card.Core.{Core}
-use Rattle.card_model.specs.declared.done.Response.the-variants.{R1}
-use Rattle.card_model.specs.Checks.{firstFailure, addressChecks}
-use Rattle.card_model.specs.Execute.{ran, eraseStart}
+use Rattle.card.specs.declared.Core.{Core}
+use Rattle.card.specs.declared.done.Response.the-variants.{R1}
+use Rattle.card.specs.Checks.{firstFailure, addressChecks}
+use Rattle.card.specs.Execute.{ran, eraseStart}
 use Rattle.card_start.specs.Outcome.{outcome}
 use borrow.Author.Needs.{needs}
 use Rattle.card_erase.proofs.erase_start.Statement.{statement}

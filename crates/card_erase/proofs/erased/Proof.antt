@@ -1,12 +1,12 @@
 -- The sweep from block to block.
 use mathlib.Core.Path.{ap, _∙_}
 use Prim.Native.Nat.{_+_, _-_, _/_}
-use Rattle.card_model.specs.declared.card.Core.{Core}
-use Rattle.card_model.specs.declared.command.Command.the-variants.{Erase}
-use Rattle.card_model.specs.declared.done.Done.{Done}
-use Rattle.card_model.specs.declared.done.Effect.the-variants.{Sweep}
-use Rattle.card_model.specs.declared.done.Response.the-variants.{R1}
-use Rattle.card_model.specs.Execute.{moved, dropErase}
+use Rattle.card.specs.declared.Core.{Core}
+use Rattle.card.specs.declared.command.Command.the-variants.{Erase}
+use Rattle.card.specs.declared.done.Done.{Done}
+use Rattle.card.specs.declared.done.Effect.the-variants.{Sweep}
+use Rattle.card.specs.declared.done.Response.the-variants.{R1}
+use Rattle.card.specs.Execute.{moved, dropErase}
 use borrow.Author.Needs.{needs}
 use Rattle.card_erase.proofs.erased.Statement.{statement}
 use Rattle.card_erase.proofs.erased.Tie as tie

@@ -1,6 +1,6 @@
 -- By the row, and by whether marks are pending.
 use mathlib.Core.Path.{sym, ap, _∙_}
-use Rattle.card_model.specs.Execute.{dropErase, settled}
+use Rattle.card.specs.Execute.{dropErase, settled}
 use borrow.Author.Needs.{needs}
 use Rattle.card_erase.proofs.settled.Statement.{statement}
 use Rattle.card_erase.proofs.settled.Tie as tie

@@ -1,8 +1,8 @@
 -- By whether some block is protected.
 use mathlib.Core.Path.{sym, ap, _∙_}
 use mathlib.Core.Bool.{Bool}
-use Rattle.card_model.specs.Protect.{anyGuarded}
-use Rattle.card_model.specs.Execute.{skipped}
+use Rattle.card.specs.Protect.{anyGuarded}
+use Rattle.card.specs.Execute.{skipped}
 use borrow.Author.Needs.{needs}
 use Rattle.card_erase.proofs.skipped.Statement.{statement}
 use Rattle.card_erase.proofs.skipped.Tie as tie

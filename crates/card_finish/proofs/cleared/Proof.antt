@@ -1,9 +1,9 @@
 -- By the response.
 use mathlib.Core.Path.{_≡_, sym, ap, _∙_}
-use Rattle.card_model.specs.declared.card.Core.{Core}
-use Rattle.card_model.specs.declared.done.Response.{Response}
-use Rattle.card_model.specs.Record.{withKept}
-use Rattle.card_model.specs.Frame.{cleared}
+use Rattle.card.specs.declared.Core.{Core}
+use Rattle.card.specs.declared.done.Response.{Response}
+use Rattle.card.specs.Record.{withKept}
+use Rattle.card.specs.Frame.{cleared}
 use borrow.Author.Needs.{needs}
 use Rattle.card_finish.proofs.cleared.Statement.{statement}
 use Rattle.card_finish.proofs.cleared.Tie as tie

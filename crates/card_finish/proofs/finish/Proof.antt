@@ -1,9 +1,9 @@
 -- The record, the message and the effect.
 use mathlib.Core.Path.{ap, ap₂, _∙_}
 use mathlib.Core.Bool.{Bool}
-use Rattle.card_model.specs.declared.card.Core.{Core}
-use Rattle.card_model.specs.Record.{withApp}
-use Rattle.card_model.specs.Status.{status}
+use Rattle.card.specs.declared.Core.{Core}
+use Rattle.card.specs.Record.{withApp}
+use Rattle.card.specs.Status.{status}
 use Rattle.card_finish.proofs.Finished.{finished}
 use borrow.Author.Needs.{needs}
 use Rattle.card_finish.proofs.finish.Statement.{statement}

@@ -1,6 +1,6 @@
 -- Kept, set or cleared.
 use borrow.Author.Needs.{needs}
-use Rattle.card_model.specs.Step.{flagged}
+use Rattle.card.specs.Step.{flagged}
 use Rattle.card_finish.proofs.flagged.Statement.{statement}
 use Rattle.card_finish.proofs.flagged.Tie as tie
 

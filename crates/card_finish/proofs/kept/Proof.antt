@@ -1,9 +1,9 @@
 -- The record and the line.
 use mathlib.Core.Path.{ap₂}
 use borrow.Author.Needs.{needs}
-use Rattle.card_model.specs.declared.card.Core.{Core}
-use Rattle.card_model.specs.declared.card.Line.{Line}
-use Rattle.card_model.specs.declared.card.Card.{Card}
+use Rattle.card.specs.declared.Core.{Core}
+use Rattle.card.specs.declared.Line.{Line}
+use Rattle.card.specs.declared.Card.{Card}
 use Rattle.card_finish.proofs.kept.Statement.{statement}
 use Rattle.card_finish.proofs.kept.Tie as tie
 

@@ -1,10 +1,10 @@
 -- By the verdict.
 use mathlib.Core.Path.{sym, ap, _∙_}
 use mathlib.Core.Bool.{false}
-use Rattle.card_model.specs.declared.card.Core.{Core}
-use Rattle.card_model.specs.declared.done.Flag.the-variants.{Keep}
-use Rattle.card_model.specs.Record.{withApp}
-use Rattle.card_model.specs.Frame.{quiet}
+use Rattle.card.specs.declared.Core.{Core}
+use Rattle.card.specs.declared.done.Flag.the-variants.{Keep}
+use Rattle.card.specs.Record.{withApp}
+use Rattle.card.specs.Frame.{quiet}
 use Rattle.card_finish.proofs.Finished.{not-allowed, other-card, ran}
 use borrow.Author.Needs.{needs}
 use Rattle.card_finish.proofs.show_sd.Statement.{statement}

@@ -3,8 +3,8 @@ use mathlib.Core.Path.{sym, ap, _∙_}
 use Prim.Native.Nat.{ℕ, _/_, _^_}
 use borrow.Author.Tests.{eq-eqb, ne-eqb}
 use lib.Bits.{and-mask, mask-lt}
-use Rattle.card_model.specs.declared.done.Response.the-variants.{R7}
-use Rattle.card_model.specs.Execute.{ran}
+use Rattle.card.specs.declared.done.Response.the-variants.{R7}
+use Rattle.card.specs.Execute.{ran}
 use borrow.Author.Needs.{needs}
 use Rattle.card_identify.proofs.send_if_cond.Statement.{statement}
 use Rattle.card_identify.proofs.send_if_cond.Tie as tie

@@ -2,9 +2,9 @@
 use mathlib.Core.Path.{ap, ap₂, _∙_}
 use Prim.Native.Nat.{ℕ}
 use borrow.Author.Tests.{eq-eqb, ne-eqb}
-use Rattle.card_model.specs.declared.card.Core.{Core}
-use Rattle.card_model.specs.declared.done.Response.the-variants.{Nothing, R3}
-use Rattle.card_model.specs.Execute.{ran, sendOpCond}
+use Rattle.card.specs.declared.Core.{Core}
+use Rattle.card.specs.declared.done.Response.the-variants.{Nothing, R3}
+use Rattle.card.specs.Execute.{ran, sendOpCond}
 use Rattle.card_identify.proofs.Window.{window-zero, window-some, fitting-zero, fitting-some}
 use borrow.Author.Needs.{needs}
 use Rattle.card_identify.proofs.send_op_cond.Statement.{statement}

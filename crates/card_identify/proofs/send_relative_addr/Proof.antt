@@ -1,10 +1,10 @@
 -- The next address, and the move.
 use mathlib.Core.Path.{ap, _∙_}
-use Rattle.card_model.specs.declared.card.Core.{Core}
-use Rattle.card_model.specs.declared.command.Command.the-variants.{SendRelativeAddr}
-use Rattle.card_model.specs.declared.done.Response.the-variants.{R6}
-use Rattle.card_model.specs.Record.{withRca}
-use Rattle.card_model.specs.Execute.{ran, moved}
+use Rattle.card.specs.declared.Core.{Core}
+use Rattle.card.specs.declared.command.Command.the-variants.{SendRelativeAddr}
+use Rattle.card.specs.declared.done.Response.the-variants.{R6}
+use Rattle.card.specs.Record.{withRca}
+use Rattle.card.specs.Execute.{ran, moved}
 use borrow.Author.Needs.{needs}
 use Rattle.card_identify.proofs.send_relative_addr.Statement.{statement}
 use Rattle.card_identify.proofs.send_relative_addr.Tie as tie

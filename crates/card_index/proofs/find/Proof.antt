@@ -4,7 +4,7 @@ use Prim.Native.Nat.{_-_, _≤_}
 use native.Mathlib.Omega.{arith}
 use borrow.Author.Needs.{needs}
 use lib.ListN.{drop}
-use Rattle.card_model.specs.Table.{commands, find}
+use Rattle.card.specs.Table.{commands, find}
 use Rattle.card_index.proofs.Found.{find-one, find-next, find-end}
 use Rattle.card_index.proofs.find.Statement.{statement}
 use Rattle.card_index.proofs.find.Tie as tie

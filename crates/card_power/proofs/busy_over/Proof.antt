@@ -4,10 +4,10 @@ use mathlib.Core.Bool.{Bool, false, not}
 use mathlib.Core.List.{[]}
 use borrow.Author.Needs.{needs}
 use lib.ListN.{length}
-use Rattle.card_model.specs.declared.state.Open.{Open}
-use Rattle.card_model.specs.State.{openOf, busy}
-use Rattle.card_model.specs.Data.{overFrom}
-use Rattle.card_model.specs.Step.{busyOver, step, overed}
+use Rattle.card.specs.declared.Open.{Open}
+use Rattle.card.specs.State.{openOf, busy}
+use Rattle.card.specs.Data.{overFrom}
+use Rattle.card.specs.Step.{busyOver, step, overed}
 use Rattle.card_call.specs.declared.Stepped.{Stepped}
 use Rattle.card_call.specs.Seen.{returned, stepped, turned}
 use Rattle.card_call.proofs.Turns.{silent, ended, by-open}

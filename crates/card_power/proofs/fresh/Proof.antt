@@ -1,6 +1,6 @@
 -- The record of a power-up, part by part.
 use borrow.Author.Needs.{needs}
-use Rattle.card_model.specs.Step.{fresh}
+use Rattle.card.specs.Step.{fresh}
 use Rattle.card_power.proofs.fresh.Statement.{statement}
 use Rattle.card_power.proofs.fresh.Tie as tie
 

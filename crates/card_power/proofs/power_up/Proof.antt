@@ -6,10 +6,10 @@ use Prim.Native.Nat.{ℕ}
 use borrow.Author.Needs.{needs}
 use lib.Dec.{eqb}
 use lib.ListN.{length}
-use Rattle.card_model.specs.declared.answer.Answer.the-variants.{Over}
-use Rattle.card_model.specs.declared.answer.Rows.{Rows}
-use Rattle.card_model.specs.declared.card.Card.{Card}
-use Rattle.card_model.specs.Step.{step, poweredUp}
+use Rattle.card.specs.declared.answer.Answer.the-variants.{Over}
+use Rattle.card.specs.declared.answer.Rows.{Rows}
+use Rattle.card.specs.declared.Card.{Card}
+use Rattle.card.specs.Step.{step, poweredUp}
 use Rattle.card_call.specs.Seen.{returned}
 use Rattle.card_refuse.proofs.Refusals.{refuses, runs}
 use Rattle.card_power.proofs.power_up.Statement.{statement}

@@ -1,9 +1,9 @@
 -- The record of a power-up, and COM_CRC_ERROR clear.
 use mathlib.Core.Path.{ap}
 use mathlib.Core.Bool.{false}
-use Rattle.card_model.specs.declared.card.Core.{Core}
-use Rattle.card_model.specs.declared.card.Card.{Card}
-use Rattle.card_model.specs.Step.{start}
+use Rattle.card.specs.declared.Core.{Core}
+use Rattle.card.specs.declared.Card.{Card}
+use Rattle.card.specs.Step.{start}
 use borrow.Author.Needs.{needs}
 use Rattle.card_power.proofs.start.Statement.{statement}
 use Rattle.card_power.proofs.start.Tie as tie

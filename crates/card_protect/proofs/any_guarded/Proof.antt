@@ -3,7 +3,7 @@ use mathlib.Core.Path.{_≡_, refl, sym, ap, _∙_}
 use Prim.Native.Nat.{_+_, _-_, _≤_}
 use native.Mathlib.Omega.{arith}
 use borrow.Author.Needs.{needs}
-use Rattle.card_model.specs.Protect.{anyGuarded}
+use Rattle.card.specs.Protect.{anyGuarded}
 use Rattle.card_protect.proofs.Blocks.{any-one, any-none, any-end}
 use Rattle.card_protect.proofs.any_guarded.Statement.{statement}
 use Rattle.card_protect.proofs.any_guarded.Tie as tie

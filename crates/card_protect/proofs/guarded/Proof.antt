@@ -1,7 +1,7 @@
 -- With the whole card, or by the mark of its group.
 use mathlib.Core.Path.{ap, _∙_}
 use borrow.Author.Needs.{needs}
-use Rattle.card_model.specs.Protect.{guarded, marked}
+use Rattle.card.specs.Protect.{guarded, marked}
 use Rattle.card_protect.proofs.guarded.Statement.{statement}
 use Rattle.card_protect.proofs.guarded.Tie as tie
 

@@ -3,8 +3,8 @@ use mathlib.Core.Path.{_≡_, ap, _∙_}
 use Prim.Native.Nat.{_*_, _/_}
 use native.Mathlib.Omega.{arith}
 use borrow.Author.Needs.{needs}
-use Rattle.card_model.specs.Settings.{BLOCK, GROUP}
-use Rattle.card_model.specs.Protect.{guarded, marked}
+use Rattle.card.specs.Settings.{BLOCK, GROUP}
+use Rattle.card.specs.Protect.{guarded, marked}
 use Rattle.card_protect.proofs.guarded_block.Statement.{statement}
 use Rattle.card_protect.proofs.guarded_block.Tie as tie
 

@@ -5,7 +5,7 @@ use lib.ListN.{set, length-set}
 use lib.Seq.{set-out}
 use native.Mathlib.Omega.{arith}
 use borrow.Author.Needs.{needs}
-use Rattle.card_model.specs.Protect.{mark}
+use Rattle.card.specs.Protect.{mark}
 use Rattle.card_protect.proofs.mark.Statement.{statement}
 use Rattle.card_protect.proofs.mark.Tie as tie
 

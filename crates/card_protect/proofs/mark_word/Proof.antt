@@ -5,8 +5,8 @@ use Prim.Native.Nat.{_+_, _-_, _/_, _≤_}
 use native.Mathlib.Omega.{arith}
 use borrow.Author.Needs.{needs}
 use Rattle.crc.specs.Bits.{bits}
-use Rattle.card_model.specs.Settings.{GROUP}
-use Rattle.card_model.specs.Protect.{groupOf, markBits}
+use Rattle.card.specs.Settings.{GROUP}
+use Rattle.card.specs.Protect.{groupOf, markBits}
 use Rattle.card_protect.proofs.Words.{word-more, word-all}
 use Rattle.card_protect.proofs.mark_word.Statement.{statement}
 use Rattle.card_protect.proofs.mark_word.Tie as tie

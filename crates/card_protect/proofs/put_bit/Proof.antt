@@ -1,7 +1,7 @@
 -- A byte with one bit made 1 or 0: it stays, or the bit is flipped.
 use mathlib.Core.Path.{sym, ap, _∙_}
 use mathlib.Core.Bool.{Bool, not}
-use Rattle.card_model.specs.Protect.{putBit}
+use Rattle.card.specs.Protect.{putBit}
 use borrow.Author.Needs.{needs}
 use Rattle.card_protect.proofs.Marks.{put-same, put-flipped, beq-same, beq-other}
 use Rattle.card_protect.proofs.put_bit.Statement.{statement}

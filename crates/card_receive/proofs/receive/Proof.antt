@@ -2,7 +2,7 @@
 use mathlib.Core.Path.{ap, _∙_}
 use borrow.Author.Needs.{needs}
 use Rattle.wire_frame.specs.declared.command.FrameCheck.the-variants.{Good, Size, Start, Check}
-use Rattle.card_model.specs.Frame.{showSd, byCheck}
+use Rattle.card.specs.Frame.{showSd, byCheck}
 use Rattle.card_receive.proofs.Received.{asleep, awake}
 use Rattle.card_receive.proofs.receive.Statement.{statement}
 use Rattle.card_receive.proofs.receive.Tie as tie

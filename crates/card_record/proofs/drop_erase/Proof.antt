@@ -1,6 +1,6 @@
 -- The erase marks go.
 use mathlib.Core.Path.{ap, _∙_}
-use Rattle.card_model.specs.Record.{withErase}
+use Rattle.card.specs.Record.{withErase}
 use borrow.Author.Needs.{needs}
 use Rattle.card_record.proofs.drop_erase.Statement.{statement}
 use Rattle.card_record.proofs.drop_erase.Tie as tie

@@ -1,7 +1,7 @@
 -- The bits of both.
 use mathlib.Core.Path.{ap, _∙_}
-use Rattle.card_model.specs.Record.{withKept}
-use Rattle.card_model.specs.Status.{join}
+use Rattle.card.specs.Record.{withKept}
+use Rattle.card.specs.Status.{join}
 use borrow.Author.Needs.{needs}
 use Rattle.card_record.proofs.raise.Statement.{statement}
 use Rattle.card_record.proofs.raise.Tie as tie

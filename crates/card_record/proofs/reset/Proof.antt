@@ -1,7 +1,7 @@
 -- Part after part.
 use mathlib.Core.Path.{ap, ap₂, _∙_}
-use Rattle.card_model.specs.declared.card.Core.{Core}
-use Rattle.card_model.specs.Record.{withErase, withKept, withLength, withWritten}
+use Rattle.card.specs.declared.Core.{Core}
+use Rattle.card.specs.Record.{withErase, withKept, withLength, withWritten}
 use borrow.Author.Needs.{needs}
 use Rattle.card_record.proofs.reset.Statement.{statement}
 use Rattle.card_record.proofs.reset.Tie as tie

@@ -1,7 +1,7 @@
 -- Row by row.
 use borrow.Author.Needs.{needs}
 use borrow.Author.Tests.{ne-eqb}
-use Rattle.card_model.specs.Step.{applies}
+use Rattle.card.specs.Step.{applies}
 use Rattle.card_refuse.proofs.applies.Statement.{statement}
 use Rattle.card_refuse.proofs.applies.Tie as tie
 

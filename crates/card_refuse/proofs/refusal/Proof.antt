@@ -4,7 +4,7 @@ use Prim.Native.Nat.{_-_, _≤_}
 use native.Mathlib.Omega.{arith}
 use borrow.Author.Needs.{needs}
 use lib.ListN.{length, drop}
-use Rattle.card_model.specs.Step.{refusal}
+use Rattle.card.specs.Step.{refusal}
 use Rattle.card_refuse.proofs.Walk.{row-applies, row-passes, rows-over}
 use Rattle.card_refuse.proofs.refusal.Statement.{statement}
 use Rattle.card_refuse.proofs.refusal.Tie as tie

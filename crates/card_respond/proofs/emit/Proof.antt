@@ -2,8 +2,8 @@
 use mathlib.Core.Path.{refl, sym, ap}
 use borrow.Author.Needs.{needs}
 use Rattle.wire_response.specs.Response.{r2Bytes}
-use Rattle.card_model.specs.Frame as Frame
-use Rattle.card_model.specs.Step.{wire, replyOf}
+use Rattle.card.specs.Frame as Frame
+use Rattle.card.specs.Step.{wire, replyOf}
 use Rattle.card_respond.specs.Sent.{messageBy}
 use Rattle.card_respond.proofs.Sending.{shows, shows-silence}
 use Rattle.card_respond.proofs.emit.Statement.{statement}

@@ -1,7 +1,7 @@
 -- The argument is the address that it means.
 use mathlib.Core.Path.{ap, _∙_}
 use borrow.Author.Needs.{needs}
-use Rattle.card_model.specs.Execute.{runAt}
+use Rattle.card.specs.Execute.{runAt}
 use Rattle.card_run.proofs.run.Statement.{statement}
 use Rattle.card_run.proofs.run.Tie as tie
 

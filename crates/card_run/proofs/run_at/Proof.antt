@@ -1,9 +1,9 @@
 -- Each command is its own function.
 use mathlib.Core.Path.{ap, _∙_}
 use borrow.Author.Needs.{needs}
-use Rattle.card_model.specs.declared.card.Core.{Core}
-use Rattle.card_model.specs.declared.done.Response.the-variants.{Nothing}
-use Rattle.card_model.specs.Execute.{ran, runAt}
+use Rattle.card.specs.declared.Core.{Core}
+use Rattle.card.specs.declared.done.Response.the-variants.{Nothing}
+use Rattle.card.specs.Execute.{ran, runAt}
 use Rattle.card_run.proofs.run_at.Statement.{statement}
 use Rattle.card_run.proofs.run_at.Tie as tie
 

@@ -1,7 +1,7 @@
 -- The bit, and the held transfer.
 use mathlib.Core.Path.{refl, ap₂, _∙_}
 use borrow.Author.Needs.{needs}
-use Rattle.card_model.specs.Record.{withState}
+use Rattle.card.specs.Record.{withState}
 use Rattle.card_call.proofs.Turns.{silent}
 use Rattle.card_send.proofs.hold.Statement.{statement}
 use Rattle.card_send.proofs.hold.Tie as tie

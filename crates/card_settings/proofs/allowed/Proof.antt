@@ -3,7 +3,7 @@ use mathlib.Core.Path.{_≡_, sym, ap, _∙_}
 use borrow.Author.Needs.{needs}
 use borrow.Author.Tests.{le-leb, lt-leb, not-true, not-false}
 use Rattle.reg_size.specs.Size.{sizePair}
-use Rattle.card_model.specs.Settings.{allowed, isPair}
+use Rattle.card.specs.Settings.{allowed, isPair}
 use Rattle.card_settings.proofs.allowed.Statement.{statement}
 use Rattle.card_settings.proofs.allowed.Tie as tie
 

@@ -1,6 +1,6 @@
 -- `csd_of` takes the pair's parts into the CSD.
 use borrow.Author.Needs.{needs}
-use Rattle.card_model.specs.Settings.{csdOf}
+use Rattle.card.specs.Settings.{csdOf}
 use Rattle.card_settings.proofs.csd_of.Statement.{statement}
 use Rattle.card_settings.proofs.csd_of.Tie as tie
 

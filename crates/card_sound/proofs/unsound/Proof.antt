@@ -1,6 +1,6 @@
 -- `unsound` makes the first five tests, then the others.
 use borrow.Author.Needs.{needs}
-use Rattle.card_model.specs.Soundness.{unsound, unsoundTests}
+use Rattle.card.specs.Soundness.{unsound, unsoundTests}
 use Rattle.card_sound.proofs.Tests.{first-holds, first-fails}
 use Rattle.card_sound.proofs.unsound.Statement.{statement}
 use Rattle.card_sound.proofs.unsound.Tie as tie

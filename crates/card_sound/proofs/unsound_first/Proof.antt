@@ -8,10 +8,10 @@ use lib.Dec.{ltb}
 use lib.ListN.{take}
 use Rattle.reg_csd.specs.Csd.{csdValues}
 use Rattle.reg_csd.specs.declared.Csd.{Csd}
-use Rattle.card_model.specs.declared.card.Core.{Core}
-use Rattle.card_model.specs.Settings.{csdOf, capacity}
-use Rattle.card_model.specs.State.{openOf, transferAddress}
-use Rattle.card_model.specs.Soundness.{equal, offWrite, unsoundTests}
+use Rattle.card.specs.declared.Core.{Core}
+use Rattle.card.specs.Settings.{csdOf, capacity}
+use Rattle.card.specs.State.{openOf, transferAddress}
+use Rattle.card.specs.Soundness.{equal, offWrite, unsoundTests}
 use Rattle.card_sound.proofs.Tests.{holds, fails, last, Passed}
 use Rattle.card_sound.proofs.unsound_first.Statement.{statement}
 use Rattle.card_sound.proofs.unsound_first.Tie as tie

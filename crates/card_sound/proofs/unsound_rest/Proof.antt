@@ -7,11 +7,11 @@ use borrow.Author.Needs.{needs}
 use borrow.Author.Tests.{lt-ltb, le-ltb}
 use lib.Dec.{ltb}
 use lib.ListN.{drop}
-use Rattle.card_model.specs.declared.state.Open.{Open}
-use Rattle.card_model.specs.declared.card.Core.{Core}
-use Rattle.card_model.specs.Settings.{capacity, groups}
-use Rattle.card_model.specs.State.{openOf, number}
-use Rattle.card_model.specs.Soundness.{markOutside, writtenMost, badRca, markedFrom, badApp, unsoundTests}
+use Rattle.card.specs.declared.Open.{Open}
+use Rattle.card.specs.declared.Core.{Core}
+use Rattle.card.specs.Settings.{capacity, groups}
+use Rattle.card.specs.State.{openOf, number}
+use Rattle.card.specs.Soundness.{markOutside, writtenMost, badRca, markedFrom, badApp, unsoundTests}
 use Rattle.card_sound.proofs.Tests.{holds, fails, last, Passed}
 use Rattle.card_sound.proofs.unsound_rest.Statement.{statement}
 use Rattle.card_sound.proofs.unsound_rest.Tie as tie

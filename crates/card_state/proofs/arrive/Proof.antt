@@ -1,6 +1,6 @@
 -- The state of a number.
 use borrow.Author.Tests.{ne-eqb}
-use Rattle.card_model.specs.State.{arrive}
+use Rattle.card.specs.State.{arrive}
 use Rattle.card_state.proofs.arrive.Statement.{statement}
 use Rattle.card_state.proofs.arrive.Tie as tie
 

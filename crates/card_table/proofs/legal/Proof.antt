@@ -4,8 +4,8 @@ use mathlib.Core.Bool.{not}
 use Prim.Native.Nat.{ℕ}
 use borrow.Author.Needs.{needs}
 use lib.Dec.{eqb}
-use Rattle.card_model.specs.State.{number}
-use Rattle.card_model.specs.Table.{legal, moves}
+use Rattle.card.specs.State.{number}
+use Rattle.card.specs.Table.{legal, moves}
 use Rattle.card_table.specs.Packed.{leadOr}
 use Rattle.card_table.proofs.Rows.{lead-none}
 use Rattle.card_table.proofs.legal.Statement.{statement}

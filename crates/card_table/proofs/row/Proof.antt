@@ -1,6 +1,6 @@
 -- Each row is right.
 use borrow.Author.Needs.{needs}
-use Rattle.card_model.specs.Table.{row, has, lead}
+use Rattle.card.specs.Table.{row, has, lead}
 use Rattle.card_table.specs.Packed.{leadOr, packed}
 use Rattle.card_table.proofs.row.Statement.{statement}
 use Rattle.card_table.proofs.row.Tie as tie

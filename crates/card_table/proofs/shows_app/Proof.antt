@@ -1,7 +1,7 @@
 -- By the column of the kind.
 use mathlib.Core.Path.{sym, ap, _∙_}
 use borrow.Author.Needs.{needs}
-use Rattle.card_model.specs.Table.{showsApp}
+use Rattle.card.specs.Table.{showsApp}
 use Rattle.card_table.specs.declared.Columns.{Columns}
 use Rattle.card_table.proofs.shows_app.Statement.{statement}
 use Rattle.card_table.proofs.shows_app.Tie as tie

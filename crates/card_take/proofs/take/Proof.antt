@@ -6,11 +6,11 @@ use Prim.Native.Nat.{ℕ}
 use borrow.Author.Needs.{needs}
 use lib.Dec.{ltb}
 use lib.ListN.{length}
-use Rattle.card_model.specs.declared.answer.Answer.the-variants.{Silence}
-use Rattle.card_model.specs.declared.state.Open.{Open}
-use Rattle.card_model.specs.State.{openOf, reading}
-use Rattle.card_model.specs.Data.{takeFrom}
-use Rattle.card_model.specs.Step.{takeBlock, step, taken, blockRoom}
+use Rattle.card.specs.declared.answer.Answer.the-variants.{Silence}
+use Rattle.card.specs.declared.Open.{Open}
+use Rattle.card.specs.State.{openOf, reading}
+use Rattle.card.specs.Data.{takeFrom}
+use Rattle.card.specs.Step.{takeBlock, step, taken, blockRoom}
 use Rattle.card_call.specs.declared.Stepped.{Stepped}
 use Rattle.card_call.specs.Seen.{returned, stepped, turned}
 use Rattle.card_call.proofs.Turns.{after, silent, by-open}

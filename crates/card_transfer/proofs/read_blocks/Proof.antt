@@ -1,7 +1,7 @@
 -- The start checks of a read, and its transfer.
 use mathlib.Core.Path.{ap, ap₂, _∙_}
 use Prim.Native.Nat.{ℕ}
-use Rattle.card_model.specs.Checks.{firstFailure, readChecks}
+use Rattle.card.specs.Checks.{firstFailure, readChecks}
 use Rattle.card_start.specs.Outcome.{outcome}
 use borrow.Author.Needs.{needs}
 use Rattle.card_transfer.proofs.read_blocks.Statement.{statement}

@@ -1,8 +1,8 @@
 -- A transfer is opened.
 use mathlib.Core.Path.{ap, _∙_}
-use Rattle.card_model.specs.declared.card.Core.{Core}
-use Rattle.card_model.specs.declared.done.Response.the-variants.{R1}
-use Rattle.card_model.specs.Execute.{ran}
+use Rattle.card.specs.declared.Core.{Core}
+use Rattle.card.specs.declared.done.Response.the-variants.{R1}
+use Rattle.card.specs.Execute.{ran}
 use borrow.Author.Needs.{needs}
 use Rattle.card_transfer.proofs.send.Statement.{statement}
 use Rattle.card_transfer.proofs.send.Tie as tie

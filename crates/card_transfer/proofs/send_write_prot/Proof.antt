@@ -1,7 +1,7 @@
 -- The start check, and the transfer of marks.
 use mathlib.Core.Path.{ap, ap₂, _∙_}
 use Prim.Native.Nat.{ℕ}
-use Rattle.card_model.specs.Checks.{firstFailure, addressChecks}
+use Rattle.card.specs.Checks.{firstFailure, addressChecks}
 use Rattle.card_start.specs.Outcome.{outcome}
 use borrow.Author.Needs.{needs}
 use Rattle.card_transfer.proofs.send_write_prot.Statement.{statement}

@@ -1,11 +1,11 @@
 -- The start check, and one mark.
 use mathlib.Core.Path.{ap, ap₂, _∙_}
 use Prim.Native.Nat.{ℕ}
-use Rattle.card_model.specs.declared.card.Core.{Core}
-use Rattle.card_model.specs.declared.done.Done.{Done}
-use Rattle.card_model.specs.declared.done.Effect.the-variants.{Protect}
-use Rattle.card_model.specs.declared.done.Response.the-variants.{R1}
-use Rattle.card_model.specs.Checks.{firstFailure, addressChecks}
+use Rattle.card.specs.declared.Core.{Core}
+use Rattle.card.specs.declared.done.Done.{Done}
+use Rattle.card.specs.declared.done.Effect.the-variants.{Protect}
+use Rattle.card.specs.declared.done.Response.the-variants.{R1}
+use Rattle.card.specs.Checks.{firstFailure, addressChecks}
 use Rattle.card_start.specs.Outcome.{outcome}
 use borrow.Author.Needs.{needs}
 use Rattle.card_transfer.proofs.set_mark.Statement.{statement}

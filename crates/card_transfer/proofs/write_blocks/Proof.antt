@@ -2,14 +2,14 @@
 use mathlib.Core.Path.{ap, ap₂, _∙_}
 use mathlib.Core.Bool.{Bool}
 use Prim.Native.Nat.{ℕ}
-use Rattle.card_model.specs.declared.card.Core.{Core}
-use Rattle.card_model.specs.declared.state.Sink.{Sink}
-use Rattle.card_model.specs.declared.state.State.the-variants.{Rcv}
-use Rattle.card_model.specs.declared.done.Response.the-variants.{R1}
-use Rattle.card_model.specs.Record.{withWritten}
-use Rattle.card_model.specs.Protect.{guarded}
-use Rattle.card_model.specs.Checks.{firstFailure, writeChecks}
-use Rattle.card_model.specs.Execute.{ran, opening}
+use Rattle.card.specs.declared.Core.{Core}
+use Rattle.card.specs.declared.Sink.{Sink}
+use Rattle.card.specs.declared.State.the-variants.{Rcv}
+use Rattle.card.specs.declared.done.Response.the-variants.{R1}
+use Rattle.card.specs.Record.{withWritten}
+use Rattle.card.specs.Protect.{guarded}
+use Rattle.card.specs.Checks.{firstFailure, writeChecks}
+use Rattle.card.specs.Execute.{ran, opening}
 use Rattle.card_start.specs.Outcome.{outcome}
 use borrow.Author.Needs.{needs}
 use Rattle.card_transfer.proofs.write_blocks.Statement.{statement}

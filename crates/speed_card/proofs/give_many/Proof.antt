@@ -5,7 +5,7 @@ use Prim.Native.Nat.{_-_, _≤_}
 use native.Mathlib.Omega.{arith}
 use borrow.Author.Needs.{needs}
 use lib.ListN.{length}
-use Rattle.card_model.specs.Step.{world}
+use Rattle.card.specs.Step.{world}
 use Rattle.speed_card.specs.Blocks.{more, many, again}
 use Rattle.speed_card.proofs.Runs.{all-left, less, none-left}
 use Rattle.speed_card.proofs.give_many.Statement.{statement}

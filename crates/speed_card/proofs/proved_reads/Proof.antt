@@ -1,6 +1,6 @@
 -- The frames, and the blocks behind them.
 use borrow.Author.Needs.{needs}
-use Rattle.card_model.specs.Step.{takeBlock}
+use Rattle.card.specs.Step.{takeBlock}
 use Rattle.speed_card.proofs.Runs.{behind}
 use Rattle.speed_card.proofs.proved_reads.Statement.{statement}
 use Rattle.speed_card.proofs.proved_reads.Tie as tie

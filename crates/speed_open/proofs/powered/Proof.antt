@@ -2,9 +2,9 @@
 use mathlib.Core.Path.{ap, ap₂, _∙_}
 use mathlib.Core.List.{[]}
 use borrow.Author.Needs.{needs}
-use Rattle.card_model.specs.declared.settings.Settings.{Settings}
-use Rattle.card_model.specs.declared.card.Card.{Card}
-use Rattle.card_model.specs.Step.{world, powerUp, next}
+use Rattle.card.specs.declared.Settings.{Settings}
+use Rattle.card.specs.declared.Card.{Card}
+use Rattle.card.specs.Step.{world, powerUp, next}
 use Rattle.speed_open.proofs.Frames.{worldOf}
 use Rattle.speed_open.proofs.powered.Statement.{statement}
 use Rattle.speed_open.proofs.powered.Tie as tie

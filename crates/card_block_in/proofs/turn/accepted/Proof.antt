@@ -1,7 +1,7 @@
 -- On to the next block, or to prg.
 use mathlib.Core.Path.{ap}
 use borrow.Author.Needs.{needs}
-use Rattle.card_model.specs.declared.state.State.the-variants.{Rcv}
+use Rattle.card.specs.declared.State.the-variants.{Rcv}
 use Rattle.card_block_in.proofs.turn.accepted.Statement.{statement}
 use Rattle.card_block_in.proofs.turn.accepted.Tie as tie
 

@@ -1,7 +1,7 @@
 -- By what is open, and by the sink.
 use mathlib.Core.Path.{sym, ap, _∙_}
 use borrow.Author.Needs.{needs}
-use Rattle.card_model.specs.declared.state.Open.the-variants.{Write}
+use Rattle.card.specs.declared.Open.the-variants.{Write}
 use Rattle.card_block_in.specs.Stores.{parts}
 use Rattle.card_block_in.proofs.turn.open_write.Statement.{statement}
 use Rattle.card_block_in.proofs.turn.open_write.Tie as tie

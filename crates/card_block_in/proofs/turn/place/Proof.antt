@@ -7,15 +7,15 @@ use native.Mathlib.Omega.{arith}
 use borrow.Author.Needs.{needs}
 use borrow.Author.Tests.{leb-false}
 use lib.ListN.{length}
-use Rattle.card_model.specs.declared.card.Core.{Core}
-use Rattle.card_model.specs.declared.done.Flag.the-variants.{Keep}
-use Rattle.card_model.specs.Settings.{BLOCK, capacity}
-use Rattle.card_model.specs.Record.{withState}
-use Rattle.card_model.specs.Protect.{whole, guarded}
-use Rattle.card_model.specs.Checks.{outside}
-use Rattle.card_model.specs.Execute.{raise}
-use Rattle.card_model.specs.Frame.{Turn, quiet}
-use Rattle.card_model.specs.Data.{holdWrite}
+use Rattle.card.specs.declared.Core.{Core}
+use Rattle.card.specs.declared.done.Flag.the-variants.{Keep}
+use Rattle.card.specs.Settings.{BLOCK, capacity}
+use Rattle.card.specs.Record.{withState}
+use Rattle.card.specs.Protect.{whole, guarded}
+use Rattle.card.specs.Checks.{outside}
+use Rattle.card.specs.Execute.{raise}
+use Rattle.card.specs.Frame.{Turn, quiet}
+use Rattle.card.specs.Data.{holdWrite}
 use Rattle.card_call.specs.Seen.{turned}
 use Rattle.card_call.proofs.Turns as Turns
 use Rattle.card_block_in.proofs.Blocks as Blocks

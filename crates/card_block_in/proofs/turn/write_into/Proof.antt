@@ -6,11 +6,11 @@ use Prim.Native.Nat.{ℕ}
 use borrow.Author.Needs.{needs}
 use lib.ListN.{length}
 use Rattle.wire_packet.specs.Packet.{payloadOf, packetRight}
-use Rattle.card_model.specs.declared.card.Core.{Core}
-use Rattle.card_model.specs.Settings.{BLOCK}
-use Rattle.card_model.specs.Record.{withState}
-use Rattle.card_model.specs.Frame.{token}
-use Rattle.card_model.specs.Data.{said, writeInto, REJECTED}
+use Rattle.card.specs.declared.Core.{Core}
+use Rattle.card.specs.Settings.{BLOCK}
+use Rattle.card.specs.Record.{withState}
+use Rattle.card.specs.Frame.{token}
+use Rattle.card.specs.Data.{said, writeInto, REJECTED}
 use Rattle.card_call.specs.Seen.{turned}
 use Rattle.card_call.proofs.Turns as Turns
 use Rattle.card_block_in.specs.Stores.{placed}

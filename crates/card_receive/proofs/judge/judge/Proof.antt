@@ -2,11 +2,11 @@
 use mathlib.Core.Path.{refl, sym, ap, _∙_}
 use borrow.Author.Needs.{needs}
 use borrow.Author.Tests.{not-true, not-false}
-use Rattle.card_model.specs.declared.card.Core.{Core}
-use Rattle.card_model.specs.declared.done.Verdict.the-variants.{NotAllowed, OtherCard, Ran}
-use Rattle.card_model.specs.Table.{own}
-use Rattle.card_model.specs.Execute.{run}
-use Rattle.card_model.specs.Frame.{judged}
+use Rattle.card.specs.declared.Core.{Core}
+use Rattle.card.specs.declared.done.Verdict.the-variants.{NotAllowed, OtherCard, Ran}
+use Rattle.card.specs.Table.{own}
+use Rattle.card.specs.Execute.{run}
+use Rattle.card.specs.Frame.{judged}
 use Rattle.card_receive.proofs.Judging.{judge-by}
 use Rattle.card_receive.proofs.judge.judge.Statement.{statement}
 use Rattle.card_receive.proofs.judge.judge.Tie as tie

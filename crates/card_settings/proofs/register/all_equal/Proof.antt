@@ -4,7 +4,7 @@ use Prim.Native.Nat.{_-_, _≤_}
 use native.Mathlib.Omega.{arith}
 use borrow.Author.Needs.{needs}
 use lib.ListN.{drop}
-use Rattle.card_model.specs.Soundness.{equal}
+use Rattle.card.specs.Soundness.{equal}
 use Rattle.card_settings.proofs.Walks.{equal-differs, equal-more, equal-end}
 use Rattle.card_settings.proofs.register.all_equal.Statement.{statement}
 use Rattle.card_settings.proofs.register.all_equal.Tie as tie

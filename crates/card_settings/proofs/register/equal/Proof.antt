@@ -1,7 +1,7 @@
 -- `equal` compares the two lists of values.
 use mathlib.Core.Path.{ap₂, _∙_}
 use borrow.Author.Needs.{needs}
-use Rattle.card_model.specs.Soundness.{equal}
+use Rattle.card.specs.Soundness.{equal}
 use Rattle.card_settings.proofs.register.equal.Statement.{statement}
 use Rattle.card_settings.proofs.register.equal.Tie as tie
 

@@ -5,7 +5,7 @@ use Prim.Native.Nat.{_-_}
 use native.Mathlib.Omega.{arith}
 use borrow.Author.Needs.{needs}
 use lib.ListN.{length, drop}
-use Rattle.card_model.specs.Soundness.{anyByte}
+use Rattle.card.specs.Soundness.{anyByte}
 use Rattle.card_sound.proofs.Walks.{anyByte-next, anyByte-end}
 use Rattle.card_sound.proofs.marks.any_byte.Statement.{statement}
 use Rattle.card_sound.proofs.marks.any_byte.Tie as tie

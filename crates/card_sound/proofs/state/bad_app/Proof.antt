@@ -1,6 +1,6 @@
 -- By the number of the state.
 use borrow.Author.Needs.{needs}
-use Rattle.card_model.specs.Soundness.{badApp}
+use Rattle.card.specs.Soundness.{badApp}
 use Rattle.card_sound.proofs.state.bad_app.Statement.{statement}
 use Rattle.card_sound.proofs.state.bad_app.Tie as tie
 

@@ -1,8 +1,8 @@
 -- By the number of the state.
 use borrow.Author.Tests.{eq-eqb, ne-eqb, le-leb, lt-leb}
 use borrow.Author.Needs.{needs}
-use Rattle.card_model.specs.State.{ina}
-use Rattle.card_model.specs.Soundness.{badRca}
+use Rattle.card.specs.State.{ina}
+use Rattle.card.specs.Soundness.{badRca}
 use Rattle.card_sound.proofs.state.bad_rca.Statement.{statement}
 use Rattle.card_sound.proofs.state.bad_rca.Tie as tie
 

@@ -1,6 +1,6 @@
 -- The address is in the card.
 use mathlib.Core.Path.{sym, _∙_}
-use Rattle.card_model.specs.Checks.{firstFailure}
+use Rattle.card.specs.Checks.{firstFailure}
 use borrow.Author.Needs.{needs}
 use Rattle.card_start.proofs.checks.address_check.Statement.{statement}
 use Rattle.card_start.proofs.checks.address_check.Tie as tie

@@ -1,9 +1,9 @@
 -- By the nonzero of the check.
 use mathlib.Core.Path.{ap, _∙_}
 use borrow.Author.Tests.{eq-eqb, ne-eqb}
-use Rattle.card_model.specs.declared.card.Core.{Core}
-use Rattle.card_model.specs.declared.done.Response.the-variants.{R1}
-use Rattle.card_model.specs.Execute.{ran}
+use Rattle.card.specs.declared.Core.{Core}
+use Rattle.card.specs.declared.done.Response.the-variants.{R1}
+use Rattle.card.specs.Execute.{ran}
 use borrow.Author.Needs.{needs}
 use Rattle.card_start.proofs.checks.checked.Statement.{statement}
 use Rattle.card_start.proofs.checks.checked.Tie as tie

@@ -1,7 +1,7 @@
 -- The checks of a read, in their order.
 use mathlib.Core.Path.{sym, _∙_}
 use borrow.Author.Tests.{lt-ltb, le-ltb}
-use Rattle.card_model.specs.Checks.{firstFailure}
+use Rattle.card.specs.Checks.{firstFailure}
 use borrow.Author.Needs.{needs}
 use Rattle.card_start.proofs.checks.read_check.Statement.{statement}
 use Rattle.card_start.proofs.checks.read_check.Tie as tie

@@ -1,7 +1,7 @@
 -- The checks of a write, in their order.
 use mathlib.Core.Path.{sym, _∙_}
 use borrow.Author.Tests.{eq-eqb, ne-eqb}
-use Rattle.card_model.specs.Checks.{firstFailure}
+use Rattle.card.specs.Checks.{firstFailure}
 use borrow.Author.Needs.{needs}
 use Rattle.card_start.proofs.checks.write_check.Statement.{statement}
 use Rattle.card_start.proofs.checks.write_check.Tie as tie

@@ -1,8 +1,8 @@
 -- A move and a response.
 use mathlib.Core.Path.{ap, _∙_}
 use borrow.Author.Needs.{needs}
-use Rattle.card_model.specs.declared.card.Core.{Core}
-use Rattle.card_model.specs.Execute.{ran}
+use Rattle.card.specs.declared.Core.{Core}
+use Rattle.card.specs.Execute.{ran}
 use Rattle.card_start.proofs.moves.moving.Statement.{statement}
 use Rattle.card_start.proofs.moves.moving.Tie as tie
 

@@ -1,6 +1,6 @@
 -- The state that the table gives.
 use mathlib.Core.Path.{ap, _∙_}
-use Rattle.card_model.specs.Record.{withState}
+use Rattle.card.specs.Record.{withState}
 use borrow.Author.Needs.{needs}
 use Rattle.card_start.proofs.moves.opening.Statement.{statement}
 use Rattle.card_start.proofs.moves.opening.Tie as tie

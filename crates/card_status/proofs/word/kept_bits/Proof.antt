@@ -1,7 +1,7 @@
 -- Each bit is at most its weight, so the sums stay in 32 bits.
 use native.Mathlib.Omega.{arith}
 use borrow.Author.Needs.{needs}
-use Rattle.card_model.specs.Status.{status}
+use Rattle.card.specs.Status.{status}
 use Rattle.card_status.proofs.word.kept_bits.Statement.{statement}
 use Rattle.card_status.proofs.word.kept_bits.Tie as tie
 

@@ -2,7 +2,7 @@
 use mathlib.Core.Path.{ap, _∙_}
 use native.Mathlib.Omega.{arith}
 use borrow.Author.Needs.{needs}
-use Rattle.card_model.specs.Status.{at, status}
+use Rattle.card.specs.Status.{at, status}
 use Rattle.card_status.proofs.word.status.Statement.{statement}
 use Rattle.card_status.proofs.word.status.Tie as tie
 

@@ -7,11 +7,11 @@ use borrow.Author.Needs.{needs}
 use borrow.Author.Tests.{leb-false, ltb-false}
 use borrow.Rule.Slice.PartMut.{mid-len}
 use lib.ListN.{length, take, drop}
-use Rattle.card_model.specs.declared.answer.Answer.the-variants.{Silence}
-use Rattle.card_model.specs.Settings.{BLOCK}
-use Rattle.card_model.specs.Checks.{outside, crossing}
-use Rattle.card_model.specs.Record.{withState}
-use Rattle.card_model.specs.Data.{takeSource, holdRead, readBlock}
+use Rattle.card.specs.declared.answer.Answer.the-variants.{Silence}
+use Rattle.card.specs.Settings.{BLOCK}
+use Rattle.card.specs.Checks.{outside, crossing}
+use Rattle.card.specs.Record.{withState}
+use Rattle.card.specs.Data.{takeSource, holdRead, readBlock}
 use Rattle.card_call.specs.Seen.{turned}
 use Rattle.card_call.proofs.Turns.{after, silent}
 use Rattle.card_take.proofs.Sending.{block-sent}

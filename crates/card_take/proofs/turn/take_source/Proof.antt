@@ -4,8 +4,8 @@ use borrow.Author.Needs.{needs}
 use lib.Dec.{lit≤}
 use lib.ListN.{replicate}
 use Rattle.crc.specs.Bits.{bits}
-use Rattle.card_model.specs.Settings.{scrBytes}
-use Rattle.card_model.specs.Data.{takeSource}
+use Rattle.card.specs.Settings.{scrBytes}
+use Rattle.card.specs.Data.{takeSource}
 use Rattle.card_take.proofs.Sending.{block-sent, word-sent}
 use Rattle.card_take.proofs.turn.take_source.Statement.{statement}
 use Rattle.card_take.proofs.turn.take_source.Tie as tie

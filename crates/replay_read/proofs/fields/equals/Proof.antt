@@ -4,7 +4,7 @@ use Prim.Native.Nat.{_-_, _≤_}
 use native.Mathlib.Omega.{arith}
 use borrow.Author.Needs.{needs}
 use lib.ListN.{length, drop}
-use Rattle.card_model.specs.Soundness.{equal}
+use Rattle.card.specs.Soundness.{equal}
 use Rattle.replay_read.proofs.Words.{lengths-differ, equal-differs, equal-more, equal-end}
 use Rattle.replay_read.proofs.fields.equals.Statement.{statement}
 use Rattle.replay_read.proofs.fields.equals.Tie as tie

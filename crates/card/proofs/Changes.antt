@@ -1,0 +1,67 @@
+-- One part of a sound record changed, and the record of a reset.
+use mathlib.Core.Path.{_≡_, refl}
+use mathlib.Core.Bool.{false}
+use mathlib.Core.List.{List}
+use Prim.Native.Nat.{ℕ, _≤_, _%_, _/_}
+use native.Mathlib.Omega.{arith}
+use borrow.Author.Tests.{eq-eqb}
+use Rattle.card.specs.declared.Settings.{Settings}
+use Rattle.card.specs.declared.Source.{Source}
+use Rattle.card.specs.declared.Sink.{Sink}
+use Rattle.card.specs.declared.State.{State}
+use Rattle.card.specs.declared.Open.the-variants.{Nothing, Read, Write}
+use Rattle.card.specs.declared.EraseMarks.{EraseMarks}
+use Rattle.card.specs.declared.Core.{Core}
+use Rattle.card.specs.Settings.{BLOCK, capacity}
+use Rattle.card.specs.Record.{withState, withWritten, withErase, withLength, withMarks, withPolls, withRca, noErase}
+use Rattle.card.specs.State.{number, openOf, sourceAddress, sinkAddress}
+use Rattle.card.specs.Execute.{reset}
+use Rattle.card.specs.Soundness.{badRca}
+use Rattle.card.proofs.Facts.{Transfer, Pending, Marked, Fixed, Size, Sturdy}
+
+module _ (c : Core) (f : Sturdy c) where
+  pub stand : (state : State) (rca n : ℕ) → Transfer (c .settings) (openOf state) n → badRca (number state) rca ≡ false
+      → Sturdy (withWritten (withState (withRca c rca) state) n)
+  stand state rca n t r = record { fixed = f .fixed; polls = f .polls; size = f .size; transfer = t; erase = f .erase; rca = r; marks = f .marks }
+
+  pub pend : (e : EraseMarks) → Pending (c .settings) e → Sturdy (withErase c e)
+  pend e p = record { fixed = f .fixed; polls = f .polls; size = f .size; transfer = f .transfer; erase = p; rca = f .rca; marks = f .marks }
+
+  pub resize : (n : ℕ) → Size n → Sturdy (withLength c n)
+  resize n z = record { fixed = f .fixed; polls = f .polls; size = z; transfer = f .transfer; erase = f .erase; rca = f .rca; marks = f .marks }
+
+  pub remark : (m : List ℕ) → Marked (c .settings) m → Sturdy (withMarks c m)
+  remark m h = record { fixed = f .fixed; polls = f .polls; size = f .size; transfer = f .transfer; erase = f .erase; rca = f .rca; marks = h }
+
+  pub poll : (n : ℕ) → n ≤ c .settings .polls → Sturdy (withPolls c n)
+  poll n h = record { fixed = f .fixed; polls = h; size = f .size; transfer = f .transfer; erase = f .erase; rca = f .rca; marks = f .marks }
+
+pub none-pending : (s : Settings) → Pending s noErase
+none-pending s = record { first = refl; second = refl }
+
+-- ---- open transfers
+
+pub none-transfer : (s : Settings) (n : ℕ) → n ≤ s .blocks → Transfer s Nothing n
+none-transfer s n h = record { inside = omega arith; aligned = refl; count = h; most = h }
+
+pub data-transfer : (s : Settings) (src : Source) (n : ℕ) → sourceAddress src ≤ capacity s → n ≤ s .blocks → Transfer s (Read src) n
+data-transfer s src n h count = record { inside = h; aligned = refl; count = count; most = count }
+
+pub rcv-transfer : (s : Settings) (k : Sink) (n : ℕ) → sinkAddress k ≤ capacity s → sinkAddress k % BLOCK ≡ 0 → n ≤ sinkAddress k / BLOCK
+    → Transfer s (Write k) n
+rcv-transfer s k n h aligned most =
+    record { inside = h; aligned = rw (eq-eqb (sinkAddress k % BLOCK) 0 aligned); count = omega arith; most = most }
+
+-- ---- command 0 and a power-up
+
+pub reset-sturdy : (c : Core) → Fixed (c .settings) (c .csd) → Marked (c .settings) (c .marks) → Sturdy (reset c)
+unfolding badRca
+reset-sturdy c fixed marks = record {
+  fixed = fixed;
+  polls = omega arith;
+  size = omega arith;
+  transfer = none-transfer (c .settings) 0 (omega arith);
+  erase = none-pending (c .settings);
+  rca = refl;
+  marks = marks;
+}

@@ -1,0 +1,101 @@
+-- Commands that move by the table: plain moves, reads, writes and protection marks.
+use mathlib.Core.Path.{_≡_, refl}
+use mathlib.Core.Bool.{Bool, true, false, not}
+use mathlib.Core.List.{[], _∷_}
+use Prim.Native.Nat.{ℕ, _%_, _≤_, _<_}
+use native.Mathlib.Omega.{arith}
+use borrow.Author.Tests.{eqb-true, leb-false, not-false}
+use lib.Dec.{eqb}
+use Rattle.card.specs.declared.Source.{Source}
+use Rattle.card.specs.declared.Source.the-variants.{Blocks}
+use Rattle.card.specs.declared.Sink.{Sink}
+use Rattle.card.specs.declared.State.{State}
+use Rattle.card.specs.declared.State.the-variants.{Data, Rcv}
+use Rattle.card.specs.declared.Core.{Core}
+use Rattle.card.specs.declared.command.Command.{Command}
+use Rattle.card.specs.declared.done.Response.{Response}
+use Rattle.card.specs.declared.done.Response.the-variants.{R1}
+use Rattle.card.specs.Settings.{BLOCK, capacity}
+use Rattle.card.specs.Record.{withWritten}
+use Rattle.card.specs.State.{number, tran, openOf, sourceAddress, sinkAddress, sink}
+use Rattle.card.specs.Status.{BLOCK-LEN-ERROR, OUT-OF-RANGE, ADDRESS-ERROR, WP-VIOLATION}
+use Rattle.card.specs.Table.{moves, lead, legal, after}
+use Rattle.card.specs.Protect.{groupOf, whole, guarded}
+use Rattle.card.specs.Checks.{_sets_, outside, crossing, offBlock, addressChecks, readChecks, writeChecks}
+use Rattle.card.specs.Execute.{ran, moved, opening, checked, readBlocks, writeBlocks, setMark}
+use Rattle.card.specs.Soundness.{badRca}
+use Rattle.card.proofs.Choices.{cond-elim}
+use Rattle.card.proofs.Facts.{Transfer, Sturdy}
+use Rattle.card.proofs.Changes.{stand, data-transfer, rcv-transfer}
+use Rattle.card.proofs.Marks.{group-in}
+use Rattle.card.proofs.Moves.{all, keepsRca, from, arrive-transfer, after-rca, came-from}
+use Rattle.card.proofs.Started.{Right, right, passed, checked-right, address-in}
+
+-- 24 and 25 differ in the kind of their transfer alone
+pub sink-address : (multiple held : Bool) (a : ℕ) → sinkAddress (sink multiple a held) ≡ a
+sink-address true held a = refl
+sink-address false held a = refl
+
+module _ (c : Core) (f : Sturdy c) where
+  module _ (cmd : Command) (permitted : legal cmd (c .bus .state) ≡ true) where
+    opened-sturdy : (t : State) (n : ℕ) → all keepsRca (moves cmd) ≡ true → Transfer (c .settings) (openOf t) n
+        → badRca (number t) (c .bus .rca) ≡ false → Sturdy (withWritten (opening cmd c t) n)
+    unfolding after
+    opened-sturdy t n k h r =
+        let s = c .bus .state in
+        stand c f (after cmd s t) (c .bus .rca) n (arrive-transfer (lead (moves cmd) (number s)) t h)
+        (after-rca cmd s permitted t (c .bus .rca) k (f .rca) r)
+
+    pub moved-sturdy : all keepsRca (moves cmd) ≡ true → Sturdy (moved cmd c)
+    moved-sturdy k = opened-sturdy (c .bus .state) (c .written) k (f .transfer) (f .rca)
+
+    pub moved-right : (r : Response) → all keepsRca (moves cmd) ≡ true → Right c (ran (moved cmd c) r)
+    moved-right r k = right (moved-sturdy k) refl refl
+
+    -- a command that runs in tran alone finds an RCA
+    found-rca : all (from tran) (moves cmd) ≡ true → eqb (c .bus .rca) 0 ≡ false
+    unfolding badRca
+    found-rca t = came-from cmd (c .bus .state) permitted tran (c .bus .rca) t (f .rca)
+
+    pub data-right : (src : Source) → all keepsRca (moves cmd) ≡ true → all (from tran) (moves cmd) ≡ true
+        → sourceAddress src ≤ capacity (c .settings) → Right c (ran (opening cmd c (Data src)) R1)
+    unfolding badRca
+    data-right src k t h =
+        right (opened-sturdy (Data src) (c .written) k (data-transfer (c .settings) src (c .written) h (f .transfer .count)) (found-rca t)) refl refl
+
+    pub read-right : (multiple : Bool) (a : ℕ) → all keepsRca (moves cmd) ≡ true → all (from tran) (moves cmd) ≡ true
+        → Right c (readBlocks cmd c multiple a)
+    read-right multiple a k t =
+        let top = capacity (c .settings) in
+        checked-right c (readChecks top (c .length) a) _ f
+        (λ e.
+        data-right (Blocks multiple a false) k t
+        (let h : a < top = address-in top a (crossing (c .length) a sets ADDRESS-ERROR ∷ []) e in omega arith))
+
+    pub rcv-right : (multiple : Bool) (a : ℕ) → all keepsRca (moves cmd) ≡ true → all (from tran) (moves cmd) ≡ true
+        → Right c (writeBlocks cmd c multiple a)
+    unfolding badRca
+    rcv-right multiple a k t =
+        let top = capacity (c .settings) in
+        let wp = guarded (whole (c .settings)) (c .marks) a in
+        let last = wp sets WP-VIOLATION ∷ [] in
+        let place = offBlock a sets ADDRESS-ERROR ∷ last in
+        let range = outside top a sets OUT-OF-RANGE ∷ place in
+        checked-right c (writeChecks top (c .length) wp a) _ f
+        (λ e.
+        let p = passed (not (eqb (c .length) BLOCK) sets BLOCK-LEN-ERROR) range e in
+        let q = passed (outside top a sets OUT-OF-RANGE) place (p .1) in
+        let r = passed (offBlock a sets ADDRESS-ERROR) last (q .1) in
+        let on : a % BLOCK ≡ 0 = eqb-true (a % BLOCK) 0 (not-false (eqb (a % BLOCK) 0) (r .0)) in
+        let below : a < top = leb-false top a (q .0) in
+        let to : Sink = sink multiple a false in
+        let at : sinkAddress to ≡ a = sink-address multiple false a in
+        right
+        (opened-sturdy (Rcv to) 0 k (rcv-transfer (c .settings) to 0 (omega arith) (rw at on) (omega arith)) (found-rca t))
+        refl refl)
+
+    pub marks-right : (value : Bool) (a : ℕ) → all keepsRca (moves cmd) ≡ true → Right c (setMark cmd c value a)
+    marks-right value a k =
+        let top = capacity (c .settings) in
+        checked-right c (addressChecks top a) _ f
+        (λ e. record { sturdy = moved-sturdy k; settings = refl; marks = refl; inside = group-in (c .settings) a (address-in top a [] e) })

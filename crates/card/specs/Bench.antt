@@ -1,0 +1,319 @@
+-- The bench readings of 01, and further ones that tell near definitions apart, as one table: runs of calls with what each shows, and
+-- one decoded response.
+use mathlib.Core.Path.{_≡_}
+use mathlib.Core.Bool.{Bool, true, false, cond, _&&_, Bool·beq}
+use mathlib.Core.List.{List, [], _∷_, _++_}
+use Prim.Native.Nat.{ℕ, _+_, _/_, _%_, _^_}
+use lib.Dec.{eqb}
+use lib.ListN.{take, getD, set, replicate}
+use Rattle.codec.specs.Answer.{Outcome, done, refused}
+use Rattle.codec.specs.Format.{decode}
+use Rattle.wire_response.specs.Response as Wire
+use Rattle.wire_response.specs.Status.{currentState, readyForData}
+use Rattle.wire_packet.specs.Packet.{packet}
+use Rattle.card.specs.declared.Settings.{Settings}
+use Rattle.card.specs.Settings.{capacity}
+use Rattle.card.specs.Soundness.{equal}
+use Rattle.card.specs.Data.{ACCEPTED}
+use Rattle.card.specs.Step.{Call, powerUp, commandFrame, blockIn, takeBlock, busyOver, World, world, Reply, silent, sent, answered, over, step, start, unpowered}
+
+-- unprotected, CID zero
+abbrev pub sized : ℕ → ℕ → Settings
+sized n p = record {
+  blocks = n;
+  polls = p;
+  cid = record { mid = 0; oid = 0; pnm = 0; prv = 0; psn = 0; mdt = 0 };
+  permanent = false;
+  temporary = false;
+}
+
+-- 01's: 64 blocks, no polls
+abbrev pub bench : Settings
+bench = sized 64 0
+
+-- for the further readings: 4 blocks, and with a poll
+abbrev pub small : Settings
+small = sized 4 0
+
+abbrev pub polled : Settings
+polled = sized 4 1
+
+unfoldable pub benchWorld : Settings → World
+benchWorld s = world (start s) (replicate (capacity s) 0)
+
+-- what the replay program prints: none, rsp or blk with bytes, ack, nak, ref with a number
+pub data Print : Type 0 where
+  none ack nak : Print
+  rsp blk : List ℕ → Print
+  ref : ℕ → Print
+
+pub record Reading : Type 0 where
+  pub call : Call
+  pub prints : Print
+
+-- bytes of a number, high byte first
+abbrev pub six : ℕ → List ℕ
+six n = n / 2 ^ 40 % 256 ∷ n / 2 ^ 32 % 256 ∷ n / 2 ^ 24 % 256 ∷ n / 2 ^ 16 % 256 ∷ n / 2 ^ 8 % 256 ∷ n % 256 ∷ []
+
+infix 70 _shows_
+-- a frame and its response, and a frame with silence
+abbrev pub frame : ℕ → Call
+frame f = commandFrame (six f) (replicate 17 0)
+
+abbrev pub _shows_ : ℕ → ℕ → Reading
+f shows r = record { call = frame f; prints = rsp (six r) }
+
+abbrev pub quietly : ℕ → Reading
+quietly f = record { call = frame f; prints = none }
+
+abbrev pub taking : List ℕ → Reading
+taking s = record { call = takeBlock (replicate 514 0); prints = blk s }
+
+abbrev pub taking-nothing : Reading
+taking-nothing = record { call = takeBlock (replicate 514 0); prints = none }
+
+abbrev pub writing : List ℕ → Reading
+writing s = record { call = blockIn s; prints = ack }
+
+-- the same block with its first bit altered
+abbrev pub damaging : List ℕ → Reading
+damaging s = record { call = blockIn (set s 0 (getD s 0 0 + 128)); prints = nak }
+
+abbrev pub overs : Reading
+overs = record { call = busyOver; prints = none }
+
+abbrev pub refusing : Call → ℕ → Reading
+refusing c k = record { call = c; prints = ref k }
+
+-- a block to write, and one of zeros as it is read
+abbrev pub block : List ℕ
+block = packet (replicate 512 0x2B)
+
+abbrev pub zeros : ℕ → List ℕ
+zeros n = packet (replicate n 0)
+
+-- bytes are a block where they were taken, and a response elsewhere
+abbrev pub bytesOf : Call → List ℕ → Print
+bytesOf (takeBlock before) s = blk s
+bytesOf (commandFrame f before) s = rsp s
+bytesOf (powerUp settings) s = rsp s
+bytesOf (blockIn b) s = rsp s
+bytesOf busyOver s = rsp s
+
+-- the answer is what the line says
+unfoldable pub printed : Call → Outcome Reply → List ℕ → Print
+printed c (refused k) out = ref k
+printed c (done silent) out = none
+printed c (done (sent n)) out = bytesOf c (take n out)
+printed c (done (answered n)) out = cond (eqb n ACCEPTED) ack nak
+printed c (done over) out = none
+
+-- which word it is, and what stands behind it
+abbrev pub wordOf : Print → ℕ
+wordOf none = 0
+wordOf ack = 1
+wordOf nak = 2
+wordOf (rsp s) = 3
+wordOf (blk s) = 4
+wordOf (ref k) = 5
+
+abbrev pub fieldOf : Print → List ℕ
+fieldOf none = []
+fieldOf ack = []
+fieldOf nak = []
+fieldOf (rsp s) = s
+fieldOf (blk s) = s
+fieldOf (ref k) = k ∷ []
+
+unfoldable pub samePrint : Print → Print → Bool
+samePrint p q = eqb (wordOf p) (wordOf q) && equal (fieldOf p) (fieldOf q)
+
+unfoldable pub plays : World → List Reading → Bool
+plays w [] = true
+plays w (l ∷ ls) =
+    let r = step w (l .call) in
+    samePrint (printed (l .call) (r .answer) (r .out)) (l .prints) && plays (r .world) ls
+
+pub data Example : Type 0 where
+  -- lines from power-up on
+  on : Settings → List Reading → Example
+  -- lines on any world
+  from : World → List Reading → Example
+  -- an R1 with its index, and the state and readiness that its status shows
+  decodes : ℕ → ℕ → ℕ → Bool → Example
+
+unfoldable pub shownBy : Outcome (List ℕ) → ℕ → Bool → Bool
+shownBy (refused k) state ready = false
+shownBy (done vs) state ready = eqb (currentState (getD vs 0 0)) state && Bool·beq (readyForData (getD vs 0 0)) ready
+
+unfoldable pub holds : Example → Bool
+holds (on s ls) = plays (benchWorld s) ls
+holds (from w ls) = plays w ls
+holds (decodes index r state ready) = shownBy (decode (Wire.r1 index) (six r)) state ready
+
+-- ---- the table
+
+-- 01's nine lines
+abbrev pub nine : List Reading
+nine =
+    quietly 0x400000000095
+    ∷ 0x48000001AA87 shows 0x08000001AA13
+    ∷ quietly 0x400000000094
+    ∷ 0x770000000065 shows 0x370080012009
+    ∷ quietly 0x510000000055
+    ∷ 0x770000000065 shows 0x37004001204F
+    ∷ quietly 0x690000000000
+    ∷ 0x770000000065 shows 0x370080012009
+    ∷ 0x6900FF800085 shows 0x3F80FF8000FF ∷ []
+
+-- the CID, all zero
+abbrev pub cidLine : Reading
+cidLine = record { call = frame 0x42000000004D; prints = rsp (0x3F ∷ (replicate 15 0 ++ (1 ∷ []))) }
+
+-- the card selected: 55, A41, 2, 3, 7
+abbrev pub selected : List Reading → List Reading
+selected rest =
+    0x770000000065 shows 0x370000012083
+    ∷ 0x6900FF800085 shows 0x3F80FF8000FF
+    ∷ cidLine
+    ∷ 0x430000000021 shows 0x0300010500A5
+    ∷ 0x4700010000DD shows 0x070000070075 ∷ rest
+
+unfoldable pub examples : List Example
+examples =
+    on bench nine
+    ∷ decodes 17 0x110000090067 4 true
+    -- a 512 read at 32,256 runs, at 32,768 is OUT_OF_RANGE, at 1 ADDRESS_ERROR; length 511 at 1 runs
+    ∷ on bench (selected (0x5100007E00DD shows 0x110000090067 ∷ taking (zeros 512) ∷ []))
+    ∷ on bench (selected (0x5100008000F3 shows 0x118000090051 ∷ []))
+    ∷ on bench (selected (0x510000000147 shows 0x1140000900F5 ∷ []))
+    ∷ on bench (selected (0x50000001FFDD shows 0x10000009000B ∷ 0x510000000147 shows 0x110000090067 ∷ taking (zeros 511) ∷ []))
+    -- group 1 alone marked: 30 at 0 shows 2, at 16,384 shows 1
+    ∷ on bench (selected
+    (0x5C0000400017 shows 0x1C00000900FF
+    ∷ overs
+    ∷ 0x5E0000000015 shows 0x1E0000090027
+    ∷ taking (packet (0 ∷ 0 ∷ 0 ∷ 2 ∷ [])) ∷ []))
+    ∷ on bench (selected
+    (0x5C0000400017 shows 0x1C00000900FF
+    ∷ overs
+    ∷ 0x5E00004000CF shows 0x1E0000090027
+    ∷ taking (packet (0 ∷ 0 ∷ 0 ∷ 1 ∷ [])) ∷ []))
+    -- R6 carries no clear-by-read bit that is kept: OUT_OF_RANGE of a take shows in the status after it
+    ∷ on small (selected
+    (0x520000060095 shows 0x1200000900D3
+    ∷ taking (zeros 512)
+    ∷ taking-nothing
+    ∷ quietly 0x470000000083
+    ∷ 0x430000000021 shows 0x03000207006B
+    ∷ 0x4D00020000B1 shows 0x0D80000700CD ∷ []))
+    -- the block of the second address is erased too
+    ∷ on small (selected
+    (0x580000020043 shows 0x18000009005D
+    ∷ writing block
+    ∷ overs
+    ∷ 0x6000000000DF shows 0x2000000900ED
+    ∷ 0x61000002009F shows 0x210000090081
+    ∷ 0x6600000000A5 shows 0x260000090097
+    ∷ overs
+    ∷ 0x510000020079 shows 0x110000090067
+    ∷ taking (zeros 512) ∷ []))
+    -- a write is read back, and an erase before it leaves it
+    ∷ on small (selected
+    (0x580000020043 shows 0x18000009005D
+    ∷ writing block
+    ∷ overs
+    ∷ 0x6000000000DF shows 0x2000000900ED
+    ∷ 0x61000001FF57 shows 0x210000090081
+    ∷ 0x6600000000A5 shows 0x260000090097
+    ∷ overs
+    ∷ 0x510000020079 shows 0x110000090067
+    ∷ taking block ∷ []))
+    -- command 0 does not rewind the published address
+    ∷ on small (selected
+    (quietly 0x400000000095
+    ∷ 0x770000000065 shows 0x370000012083
+    ∷ 0x6900FF800085 shows 0x3F80FF8000FF
+    ∷ cidLine
+    ∷ 0x430000000021 shows 0x030002050047 ∷ []))
+    -- A22 counts the 010 answers since the write command
+    ∷ on small (selected
+    (0x590000000003 shows 0x190000090031
+    ∷ writing block
+    ∷ writing block
+    ∷ damaging block
+    ∷ 0x4C0000000061 shows 0x0C00000D000B
+    ∷ overs
+    ∷ 0x77000100003B shows 0x370000092033
+    ∷ 0x560000000043 shows 0x160000092015
+    ∷ taking (packet (0 ∷ 0 ∷ 0 ∷ 2 ∷ [])) ∷ []))
+    -- an erase skips a protected group and says so; a write there is refused
+    ∷ on small (selected
+    (0x5C00000000CD shows 0x1C00000900FF
+    ∷ overs
+    ∷ 0x58000000006F shows 0x180400090045
+    ∷ 0x6000000000DF shows 0x2000000900ED
+    ∷ 0x61000002009F shows 0x210000090081
+    ∷ 0x6600000000A5 shows 0x260000890031
+    ∷ overs ∷ []))
+    -- 33 without 32, 38 without both, an address below the first, and another command between
+    ∷ on small (selected
+    (0x6100000000B3 shows 0x2110000900E1
+    ∷ 0x6600000000A5 shows 0x2610000900F7
+    ∷ 0x6000000200F3 shows 0x2000000900ED
+    ∷ 0x6100000000B3 shows 0x210000090081
+    ∷ 0x6600000000A5 shows 0x2608000900A7
+    ∷ 0x6000000200F3 shows 0x2000000900ED
+    ∷ 0x4D0001000053 shows 0x0D00002900DB ∷ []))
+    -- row 1: a frame that is not 6 bytes, a block that is not 514
+    ∷ on small (refusing (commandFrame (0x40 ∷ []) (replicate 17 0)) 1 ∷ refusing (blockIn (replicate 513 0)) 1 ∷ [])
+    -- row 2: an unsound record, before row 3; and row 1 before it
+    ∷ from (world unpowered (0 ∷ []))
+    (refusing (frame 0x400000000095) 2
+    ∷ refusing (blockIn block) 2
+    ∷ refusing (takeBlock (replicate 514 0)) 2
+    ∷ refusing busyOver 2
+    ∷ refusing (commandFrame [] []) 1 ∷ [])
+    -- row 3: memory of another size, at a power-up too
+    ∷ from (world (start small) (replicate 2047 0))
+    (refusing (frame 0x400000000095) 3
+    ∷ refusing (takeBlock []) 3
+    ∷ refusing (blockIn block) 3
+    ∷ refusing busyOver 3
+    ∷ refusing (powerUp small) 3 ∷ [])
+    -- row 4: a buffer under 17 bytes, and one under 514
+    ∷ on small (refusing (commandFrame (six 0x400000000095) (replicate 16 0)) 4 ∷ refusing (takeBlock (replicate 513 0)) 4 ∷ [])
+    -- row 5: blocks and takes outside their states
+    ∷ on small (selected
+    (refusing (takeBlock (replicate 514 0)) 5
+    ∷ refusing (blockIn block) 5
+    ∷ refusing busyOver 5 ∷ []))
+    -- row 6: 3 blocks, which no pair gives, and 16 polls; and row 3 before it
+    ∷ from (world unpowered (replicate 1536 0)) (refusing (powerUp (sized 3 0)) 6 ∷ refusing (powerUp (sized 2 0)) 3 ∷ [])
+    ∷ on small (refusing (powerUp (sized 4 16)) 6 ∷ record { call = powerUp small; prints = none } ∷ [])
+    -- an illegal command clears the application mark, so A41 is not in the table
+    ∷ on
+    small
+    (0x770000000065 shows 0x370000012083
+    ∷ quietly 0x510000000055
+    ∷ quietly 0x6900FF800085 ∷ 0x770000000065 shows 0x37004001204F ∷ [])
+    -- a wrong start bit is no check error
+    ∷ on small (quietly 0xC00000000095 ∷ 0x770000000065 shows 0x370000012083 ∷ [])
+    -- a window with no bit of FF8000h ends in ina, where nothing is heard
+    ∷ on small (0x770000000065 shows 0x370000012083 ∷ quietly 0x6900007FFF89 ∷ quietly 0x400000000095 ∷ [])
+    -- a query uses up no poll
+    ∷ on polled
+    (0x770000000065 shows 0x370000012083
+    ∷ 0x6900000000E5 shows 0x3F00FF8000FF
+    ∷ 0x770000000065 shows 0x370000012083
+    ∷ 0x6900FF800085 shows 0x3F00FF8000FF
+    ∷ 0x770000000065 shows 0x370000012083
+    ∷ 0x6900FF800085 shows 0x3F80FF8000FF ∷ [])
+    ∷ []
+
+unfoldable pub every : List Example → Bool
+every [] = true
+every (x ∷ xs) = holds x && every xs
+
+abbrev pub Readings : Type 0
+Readings = every examples ≡ true

@@ -1,0 +1,124 @@
+-- Data blocks (01, "Take", "Block in", "Busy over"), by what the state has open.
+use mathlib.Core.Bool.{Bool, true, false, cond, not}
+use mathlib.Core.List.{List, [], _∷_}
+use Prim.Native.Nat.{ℕ, _+_}
+use lib.ListN.{take, drop, replicate}
+use Rattle.crc.specs.Bits.{bits, bytes}
+use Rattle.wire_packet.specs.Packet.{packetRight, payloadOf}
+use Rattle.card.specs.declared.Source.{Source}
+use Rattle.card.specs.declared.Source.the-variants.{Blocks, WriteProtect, SdStatus, WrittenBlocks, Scr}
+use Rattle.card.specs.declared.Sink.{Sink}
+use Rattle.card.specs.declared.Sink.the-variants.{Single, Multiple}
+use Rattle.card.specs.declared.State.{State}
+use Rattle.card.specs.declared.State.the-variants.{Tran, Data, Rcv, Prg}
+use Rattle.card.specs.declared.Open as Open
+use Rattle.card.specs.declared.Open.{Open}
+use Rattle.card.specs.declared.Open.the-variants.{Read, Write, Busy}
+use Rattle.card.specs.declared.Core.{Core}
+use Rattle.card.specs.declared.done.Effect.{Effect}
+use Rattle.card.specs.declared.done.Effect.the-variants.{Nothing, Store}
+use Rattle.card.specs.declared.done.Flag.the-variants.{Keep}
+use Rattle.card.specs.Settings.{BLOCK, capacity, groups, scrBytes}
+use Rattle.card.specs.Record.{withState, withWritten}
+use Rattle.card.specs.State.{sink}
+use Rattle.card.specs.Status.{OUT-OF-RANGE, ADDRESS-ERROR, WP-VIOLATION}
+use Rattle.card.specs.Protect.{groupOf, whole, guarded, markBits}
+use Rattle.card.specs.Checks.{outside, crossing}
+use Rattle.card.specs.Execute.{raise}
+use Rattle.card.specs.Frame.{Message, block, token, finished, Turn, quiet}
+
+-- a call of data leaves COM_CRC_ERROR
+abbrev pub said : Core → Message → Turn
+said c m = record { core = c; flag = Keep; message = m; effect = Nothing; payload = [] }
+
+-- ---- take a block
+
+-- a number of 32 bits, high byte first
+abbrev pub word32 : ℕ → List ℕ
+word32 n = bytes 4 (bits 32 n)
+
+-- 30: the lowest bit is the addressed group
+abbrev pub markBytes : Core → ℕ → List ℕ
+markBytes c address = bytes 4 (markBits (groups (c .settings)) (c .marks) (groupOf address) 32)
+
+-- a bit, and the transfer is held: it and later takes are silent
+abbrev pub holdRead : Core → Bool → ℕ → ℕ → Turn
+holdRead c multiple address bit = quiet (withState (raise c bit) (Data (Blocks multiple address true))) Keep
+
+-- the memory block; 18 goes on behind it, 17 returns to tran
+abbrev pub readBlock : Core → List ℕ → Bool → ℕ → Turn
+readBlock c memory multiple address =
+    said (withState c (cond multiple (Data (Blocks true (address + c .length) false)) Tran)) (block (take (c .length) (drop address memory)))
+
+-- a block of its own, and back to tran
+abbrev pub single : Core → List ℕ → Turn
+single c payload = said (withState c Tran) (block payload)
+
+unfoldable pub takeSource : Source → Core → List ℕ → Turn
+takeSource (Blocks multiple address held) c memory =
+    cond held (quiet c Keep)
+    (cond (outside (capacity (c .settings)) address) (holdRead c multiple address OUT-OF-RANGE)
+    (cond (crossing (c .length) address) (holdRead c multiple address ADDRESS-ERROR) (readBlock c memory multiple address)))
+takeSource (WriteProtect address) c memory = single c (markBytes c address)
+takeSource SdStatus c memory = single c (replicate 64 0)
+takeSource WrittenBlocks c memory = single c (word32 (c .written))
+takeSource Scr c memory = single c scrBytes
+
+-- where no read is open row 5 has refused the call
+unfoldable pub takeFrom : Open → Core → List ℕ → Turn
+takeFrom Open.Nothing c memory = quiet c Keep
+takeFrom (Read s) c memory = takeSource s c memory
+takeFrom (Write s) c memory = quiet c Keep
+takeFrom (Busy s) c memory = quiet c Keep
+
+-- ---- block in
+
+-- 010 and 101
+abbrev pub ACCEPTED : ℕ
+ACCEPTED = 2
+
+abbrev pub REJECTED : ℕ
+REJECTED = 5
+
+abbrev pub holdWrite : Core → Bool → ℕ → Core
+holdWrite c multiple address = withState c (Rcv (sink multiple address true))
+
+-- after a wrong check 25 is held, and 24 returns to tran
+abbrev pub rejected : Core → Bool → ℕ → Core
+rejected c multiple address = cond multiple (holdWrite c multiple address) (withState c Tran)
+
+-- 24 goes to prg, 25 on to the next block
+abbrev pub accepted : Core → Bool → ℕ → Core
+accepted c multiple address =
+    withState (withWritten c (c .written + 1)) (cond multiple (Rcv (sink true (address + BLOCK) false)) Prg)
+
+-- stored at once
+abbrev pub storeBlock : Core → Bool → ℕ → List ℕ → Turn
+storeBlock c multiple address packet =
+    record { core = accepted c multiple address; flag = Keep; message = token ACCEPTED; effect = Store address; payload = payloadOf packet }
+
+unfoldable pub writeInto : Bool → ℕ → Bool → Core → List ℕ → Turn
+writeInto multiple address held c packet =
+    cond held (quiet c Keep)
+    (cond (not (packetRight packet)) (said (rejected c multiple address) (token REJECTED))
+    (cond (outside (capacity (c .settings)) address) (quiet (holdWrite (raise c OUT-OF-RANGE) multiple address) Keep)
+    (cond (guarded (whole (c .settings)) (c .marks) address) (quiet (holdWrite (raise c WP-VIOLATION) multiple address) Keep)
+    (storeBlock c multiple address packet))))
+
+abbrev pub writeSink : Sink → Core → List ℕ → Turn
+writeSink (Single address held) c packet = writeInto false address held c packet
+writeSink (Multiple address held) c packet = writeInto true address held c packet
+
+unfoldable pub blockInto : Open → Core → List ℕ → Turn
+blockInto Open.Nothing c packet = quiet c Keep
+blockInto (Read s) c packet = quiet c Keep
+blockInto (Write s) c packet = writeSink s c packet
+blockInto (Busy s) c packet = quiet c Keep
+
+-- ---- busy over
+
+unfoldable pub overFrom : Open → Core → Turn
+overFrom Open.Nothing c = quiet c Keep
+overFrom (Read s) c = quiet c Keep
+overFrom (Write s) c = quiet c Keep
+overFrom (Busy next) c = said (withState c next) finished

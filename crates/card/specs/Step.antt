@@ -1,0 +1,265 @@
+-- The five calls: refusals first, in 01's order, and then what the call does. This is the step that histories run.
+use mathlib.Core.Path.{_≡_}
+use mathlib.Core.Bool.{Bool, true, false, cond, not}
+use mathlib.Core.List.{List, [], _∷_, _++_}
+use mathlib.Core.Option.{Option, none, some}
+use Prim.Native.Nat.{ℕ, _+_}
+use lib.Dec.{eqb, ltb}
+use lib.ListN.{length, drop, replicate}
+use Rattle.codec.specs.Answer.{Outcome, done, refused}
+use Rattle.codec.specs.Format.{image}
+use Rattle.wire_response.specs.Response as Wire
+use Rattle.wire_response.specs.Status.{shortStatus}
+use Rattle.wire_packet.specs.Packet.{packet, CHECK}
+use Rattle.card.specs.declared.answer.Answer.{Answer}
+use Rattle.card.specs.declared.answer.Answer.the-variants.{Silence, Sent, Accepted, Rejected, Over, Refused}
+use Rattle.card.specs.declared.answer.Rows.{Rows}
+use Rattle.card.specs.declared.Settings.{Settings}
+use Rattle.card.specs.declared.State.the-variants.{Idle}
+use Rattle.card.specs.declared.Open.{Open}
+use Rattle.card.specs.declared.Core.{Core}
+use Rattle.card.specs.declared.Line.{Line}
+use Rattle.card.specs.declared.Card.{Card}
+use Rattle.card.specs.declared.done.Flag.{Flag}
+use Rattle.card.specs.declared.done.Flag.the-variants.{Keep, Set, Clear}
+use Rattle.card.specs.Settings.{BLOCK, capacity, allowed, csdOf}
+use Rattle.card.specs.Record.{noErase, withMarks}
+use Rattle.card.specs.State.{openOf, reading, writing, busy}
+use Rattle.card.specs.Status.{noBits, shown}
+use Rattle.card.specs.Soundness.{unsound}
+use Rattle.card.specs.Protect.{whole}
+use Rattle.card.specs.Execute.{reset}
+use Rattle.card.specs.Effects.{Stored, stored, affected}
+use Rattle.card.specs.Frame.{Message, silence, r1, r6, plain, block, token, finished, Turn, receive}
+use Rattle.card.specs.Data.{takeFrom, blockInto, overFrom, ACCEPTED, REJECTED}
+
+-- ---- calls, and what stays between them
+
+pub data Call : Type 0 where
+  powerUp : Settings → Call
+  -- the frame and the output buffer
+  commandFrame : List ℕ → List ℕ → Call
+  -- the block
+  blockIn : List ℕ → Call
+  -- the output buffer
+  takeBlock : List ℕ → Call
+  busyOver : Call
+
+pub record World : Type 0 where
+  pub card : Card
+  pub memory : List ℕ
+
+abbrev pub world : Card → List ℕ → World
+world card memory = record { card = card; memory = memory }
+
+-- ---- answers: each case of the enum with 01's number or value
+
+pub data Reply : Type 0 where
+  silent : Reply
+  -- so many bytes of the output buffer
+  sent : ℕ → Reply
+  -- 010 is 2, 101 is 5
+  answered : ℕ → Reply
+  over : Reply
+
+abbrev pub answer : Answer → Outcome Reply
+answer Silence = done silent
+answer (Sent n) = done (sent n)
+answer Accepted = done (answered ACCEPTED)
+answer Rejected = done (answered REJECTED)
+answer Over = done over
+answer (Refused k) = refused k
+
+-- ---- from the turn to what is seen
+
+-- the bytes that a message sends, with COM_CRC_ERROR as the line has it
+unfoldable pub wire : Bool → Message → List ℕ
+wire crc silence = []
+wire crc (r1 index word) = image (Wire.r1 index) (shown crc word ∷ [])
+wire crc (r6 rca word) = image Wire.r6 (rca ∷ shortStatus (shown crc word) ∷ [])
+wire crc (plain s) = s
+wire crc (block payload) = packet payload
+wire crc (token n) = []
+wire crc finished = []
+
+unfoldable pub replyOf : Bool → Message → Reply
+replyOf crc silence = silent
+replyOf crc (r1 index word) = sent (length (wire crc (r1 index word)))
+replyOf crc (r6 rca word) = sent (length (wire crc (r6 rca word)))
+replyOf crc (plain s) = sent (length (wire crc (plain s)))
+replyOf crc (block payload) = sent (length (wire crc (block payload)))
+replyOf crc (token n) = answered n
+replyOf crc finished = over
+
+-- what the line keeps
+abbrev pub line : Bool → Line
+line crc = record { «com_crc_error» = crc }
+
+unfoldable pub flagged : Flag → Line → Line
+flagged Keep l = l
+flagged Set l = line true
+flagged Clear l = line false
+
+pub record Result : Type 0 where
+  pub answer : Outcome Reply
+  pub world : World
+  pub out : List ℕ
+
+-- a refused call returns its number and nothing else
+abbrev pub refuse : World → List ℕ → ℕ → Result
+refuse w out k = record { answer = refused k; world = w; out = out }
+
+-- memory and marks after a turn
+abbrev pub after : World → Turn → Stored
+after w t = affected (whole (w .card .core .settings)) (t .effect) (t .payload) (stored (w .memory) (w .card .core .marks))
+
+-- a call that was not refused: messages go out as a prefix of the buffer
+unfoldable pub show : World → List ℕ → Turn → Result
+show w out t =
+    let crc = w .card .line .«com_crc_error» in
+    let s = wire crc (t .message) in
+    record {
+      answer = done (replyOf crc (t .message));
+      world = world (record { core = withMarks (t .core) (after w t .marks); line = flagged (t .flag) (w .card .line) }) (after w t .memory);
+      out = s ++ drop (length s) out;
+    }
+
+-- ---- refusals
+
+-- whether the row of a number applies
+unfoldable pub applies : Rows → ℕ → Bool
+applies r n =
+    cond (eqb n 1) (r .size) (cond (eqb n 2) (r .unsound) (cond (eqb n 3) (r .memory)
+    (cond (eqb n 4) (r .buffer) (cond (eqb n 5) (r .closed) (cond (eqb n 6) (r .settings) false)))))
+
+-- of the rows that a call has, in their order, the first that applies
+unfoldable pub refusal : List ℕ → Rows → Option ℕ
+refusal [] r = none
+refusal (n ∷ ns) r = cond (applies r n) (some n) (refusal ns r)
+
+abbrev pub POWER-ROWS : List ℕ
+POWER-ROWS = 3 ∷ 6 ∷ []
+
+abbrev pub FRAME-ROWS : List ℕ
+FRAME-ROWS = 1 ∷ 2 ∷ 3 ∷ 4 ∷ []
+
+abbrev pub BLOCK-ROWS : List ℕ
+BLOCK-ROWS = 1 ∷ 2 ∷ 3 ∷ 5 ∷ []
+
+abbrev pub TAKE-ROWS : List ℕ
+TAKE-ROWS = 2 ∷ 3 ∷ 4 ∷ 5 ∷ []
+
+abbrev pub OVER-ROWS : List ℕ
+OVER-ROWS = 2 ∷ 3 ∷ 5 ∷ []
+
+-- a refusal, or the call
+abbrev pub unless : Option ℕ → World → List ℕ → Result → Result
+unless o w out r = elim o [ none ↦ r | some n ↦ refuse w out n ]
+
+-- row 3
+abbrev pub otherSize : List ℕ → Settings → Bool
+otherSize memory s = not (eqb (length memory) (capacity s))
+
+-- what the calls but power-up are handed, held against the rows; each says which sizes, buffers and transfers are wrong
+abbrev pub rows : World → Bool → Bool → Bool → Rows
+rows w size buffer closed = record {
+  size = size;
+  unsound = unsound (w .card .core);
+  memory = otherSize (w .memory) (w .card .core .settings);
+  buffer = buffer;
+  closed = closed;
+  settings = false;
+}
+
+-- ---- sizes
+
+-- a command frame, and the room for any response
+abbrev pub FRAME : ℕ
+FRAME = 6
+
+abbrev pub ROOM : ℕ
+ROOM = 17
+
+-- an incoming block, and the room for any block that is taken
+abbrev pub blockSize : Core → ℕ
+blockSize c = BLOCK + CHECK
+
+abbrev pub blockRoom : Core → ℕ
+blockRoom c = BLOCK + CHECK
+
+-- ---- the five calls
+
+-- the record of a power-up: as after command 0, last published RCA 0, all marks clear
+unfoldable pub fresh : Settings → Core
+fresh s = reset (record {
+  settings = s;
+  csd = csdOf s;
+  bus = record { state = Idle; rca = 0; published = 0; polls = s .polls; app = false };
+  kept = noBits;
+  erase = noErase;
+  length = BLOCK;
+  written = 0;
+  marks = replicate 256 0;
+})
+
+unfoldable pub start : Settings → Card
+start s = record { core = fresh s; line = line false }
+
+-- before the first power-up there is a card of no blocks: its record is unsound, so every other call is refused
+abbrev pub NO-CARD : Settings
+NO-CARD = record {
+  blocks = 0;
+  polls = 0;
+  cid = record { mid = 0; oid = 0; pnm = 0; prv = 0; psn = 0; mdt = 0 };
+  permanent = false;
+  temporary = false;
+}
+
+abbrev pub unpowered : Card
+unpowered = start NO-CARD
+
+abbrev pub powerRefusal : World → Settings → Option ℕ
+powerRefusal w s =
+    refusal POWER-ROWS
+    (record { size = false; unsound = false; memory = otherSize (w .memory) s; buffer = false; closed = false; settings = not (allowed s) })
+
+unfoldable pub poweredUp : World → Settings → Result
+poweredUp w s = unless (powerRefusal w s) w [] (record { answer = done over; world = world (start s) (w .memory); out = [] })
+
+abbrev pub frameRefusal : World → List ℕ → List ℕ → Option ℕ
+frameRefusal w frame out = refusal FRAME-ROWS (rows w (not (eqb (length frame) FRAME)) (ltb (length out) ROOM) false)
+
+unfoldable pub framed : World → List ℕ → List ℕ → Result
+framed w frame out = unless (frameRefusal w frame out) w out (show w out (receive (w .card .core) frame))
+
+-- what the state of the card has open
+abbrev pub opened : World → Open
+opened w = openOf (w .card .core .bus .state)
+
+abbrev pub blockRefusal : World → List ℕ → Option ℕ
+blockRefusal w s = refusal BLOCK-ROWS (rows w (not (eqb (length s) (blockSize (w .card .core)))) false (not (writing (opened w))))
+
+unfoldable pub given : World → List ℕ → Result
+given w s = unless (blockRefusal w s) w [] (show w [] (blockInto (opened w) (w .card .core) s))
+
+abbrev pub takeRefusal : World → List ℕ → Option ℕ
+takeRefusal w out = refusal TAKE-ROWS (rows w false (ltb (length out) (blockRoom (w .card .core))) (not (reading (opened w))))
+
+unfoldable pub taken : World → List ℕ → Result
+taken w out = unless (takeRefusal w out) w out (show w out (takeFrom (opened w) (w .card .core) (w .memory)))
+
+abbrev pub overRefusal : World → Option ℕ
+overRefusal w = refusal OVER-ROWS (rows w false false (not (busy (opened w))))
+
+unfoldable pub overed : World → Result
+overed w = unless (overRefusal w) w [] (show w [] (overFrom (opened w) (w .card .core)))
+
+unfoldable pub step : World → Call → Result
+step w (powerUp s) = poweredUp w s
+step w (commandFrame frame out) = framed w frame out
+step w (blockIn s) = given w s
+step w (takeBlock out) = taken w out
+step w busyOver = overed w
+
+abbrev pub next : World → Call → World
+next w c = step w c .world

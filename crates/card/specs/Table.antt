@@ -1,0 +1,172 @@
+-- The commands and the transition table (01, "Transitions"; 003's card state table): a row for each command.
+use mathlib.Core.Bool.{Bool, true, false, cond, not, _&&_, _||_, Bool·beq}
+use mathlib.Core.List.{List, [], _∷_, _++_, map}
+use Prim.Native.Nat.{ℕ, _/_, _^_}
+use lib.Dec.{eqb}
+use Rattle.card.specs.declared.State.{State}
+use Rattle.card.specs.declared.command.Command.{Command}
+use Rattle.card.specs.declared.command.Command.the-variants.{GoIdleState, AllSendCid, SendRelativeAddr, SelectCard, DeselectCard, SendIfCond, SendCsd, SendCid, StopTransmission, SendStatus, AppCmd, GoInactiveState, SetBlocklen, ReadSingleBlock, ReadMultipleBlock, SendWriteProt, WriteBlock, WriteMultipleBlock, SetWriteProt, ClrWriteProt, Erase, EraseWrBlkStart, EraseWrBlkEnd, SdStatus, SendNumWrBlocks, SendScr, SetWrBlkEraseCount, SetClrCardDetect, SdSendOpCond, Unknown}
+use Rattle.card.specs.declared.command.Kind as Kind
+use Rattle.card.specs.declared.command.Kind.{Kind}
+use Rattle.card.specs.declared.command.Kind.the-variants.{Plain, Application}
+use Rattle.card.specs.declared.command.Rca.{Rca}
+use Rattle.card.specs.declared.command.Rca.the-variants.{Unused, Addressed, Own, Other}
+use Rattle.card.specs.declared.Bus.{Bus}
+use Rattle.card.specs.State.{idle, ready, ident, stby, tran, «data», rcv, prg, dis, ina, number, arrive}
+
+-- ---- moves
+
+infixr 70 _⟶_
+pub record Move : Type 0 where
+  pub from : ℕ
+  pub to : ℕ
+
+abbrev pub _⟶_ : ℕ → ℕ → Move
+a ⟶ b = record { from = a; to = b }
+
+-- a move from each of several states to one, and a stay in each
+abbrev pub each : List ℕ → ℕ → List Move
+each from to = map (λ a. a ⟶ to) from
+
+abbrev pub stay : List ℕ → List Move
+stay from = map (λ a. a ⟶ a) from
+
+-- "stby to dis"
+abbrev pub stbyToDis : List ℕ
+stbyToDis = stby ∷ tran ∷ «data» ∷ rcv ∷ prg ∷ dis ∷ []
+
+-- ---- rows
+
+pub record Row : Type 0 where
+  pub index : ℕ
+  pub kind : Kind
+  -- what the upper half of the argument is
+  pub rca : Rca
+  -- pending erase marks are its own affair; the other commands drop them
+  pub keepsErase : Bool
+  -- from which state to which
+  pub moves : List Move
+
+abbrev pub columns : ℕ → Kind → Rca → Bool → List Move → Row
+columns i k r e ms = record { index = i; kind = k; rca = r; keepsErase = e; moves = ms }
+
+abbrev pub KEEPS : Bool
+KEEPS = true
+
+abbrev pub DROPS : Bool
+DROPS = false
+
+unfoldable pub row : Command → Row
+-- index, kind, RCA, erase marks, moves
+row GoIdleState = columns 0 Plain Unused KEEPS (each (idle ∷ ready ∷ ident ∷ stbyToDis) idle)
+row AllSendCid = columns 2 Plain Unused DROPS (ready ⟶ ident ∷ [])
+row SendRelativeAddr = columns 3 Plain Unused DROPS (each (ident ∷ stby ∷ []) stby)
+row SelectCard = columns 7 Plain Own DROPS (stby ⟶ tran ∷ dis ⟶ prg ∷ [])
+row DeselectCard = columns 7 Plain Other DROPS (each (stby ∷ tran ∷ «data» ∷ []) stby ++ (prg ⟶ dis ∷ []))
+row SendIfCond = columns 8 Plain Unused DROPS (stay (idle ∷ []))
+row SendCsd = columns 9 Plain Addressed DROPS (stay (stby ∷ []))
+row SendCid = columns 10 Plain Addressed DROPS (stay (stby ∷ []))
+row StopTransmission = columns 12 Plain Unused DROPS («data» ⟶ tran ∷ rcv ⟶ prg ∷ [])
+row SendStatus = columns 13 Plain Addressed DROPS (stay stbyToDis)
+row AppCmd = columns 55 Kind.AppCmd Addressed DROPS (stay (idle ∷ stbyToDis))
+row GoInactiveState = columns 15 Plain Addressed DROPS (each stbyToDis ina)
+row SetBlocklen = columns 16 Plain Unused DROPS (stay (tran ∷ []))
+row ReadSingleBlock = columns 17 Plain Unused DROPS (tran ⟶ «data» ∷ [])
+row ReadMultipleBlock = columns 18 Plain Unused DROPS (tran ⟶ «data» ∷ [])
+row SendWriteProt = columns 30 Plain Unused DROPS (tran ⟶ «data» ∷ [])
+row WriteBlock = columns 24 Plain Unused DROPS (tran ⟶ rcv ∷ [])
+row WriteMultipleBlock = columns 25 Plain Unused DROPS (tran ⟶ rcv ∷ [])
+row SetWriteProt = columns 28 Plain Unused DROPS (tran ⟶ prg ∷ [])
+row ClrWriteProt = columns 29 Plain Unused DROPS (tran ⟶ prg ∷ [])
+row Erase = columns 38 Plain Unused KEEPS (tran ⟶ prg ∷ [])
+row EraseWrBlkStart = columns 32 Plain Unused KEEPS (stay (tran ∷ []))
+row EraseWrBlkEnd = columns 33 Plain Unused KEEPS (stay (tran ∷ []))
+row SdStatus = columns 13 Application Unused DROPS (tran ⟶ «data» ∷ [])
+row SendNumWrBlocks = columns 22 Application Unused DROPS (tran ⟶ «data» ∷ [])
+row SendScr = columns 51 Application Unused DROPS (tran ⟶ «data» ∷ [])
+row SetWrBlkEraseCount = columns 23 Application Unused DROPS (stay (tran ∷ []))
+row SetClrCardDetect = columns 42 Application Unused DROPS (stay (tran ∷ []))
+row SdSendOpCond = columns 41 Application Unused DROPS (stay (idle ∷ []))
+row Unknown = columns 64 Plain Unused DROPS []
+
+-- the commands that have an index
+abbrev pub commands : List Command
+commands =
+    GoIdleState ∷ AllSendCid ∷ SendRelativeAddr ∷ SelectCard ∷ DeselectCard ∷ SendIfCond ∷ SendCsd ∷ SendCid ∷ StopTransmission ∷ SendStatus
+    ∷ AppCmd ∷ GoInactiveState ∷ SetBlocklen ∷ ReadSingleBlock ∷ ReadMultipleBlock ∷ SendWriteProt ∷ WriteBlock ∷ WriteMultipleBlock
+    ∷ SetWriteProt ∷ ClrWriteProt ∷ Erase ∷ EraseWrBlkStart ∷ EraseWrBlkEnd ∷ SdStatus ∷ SendNumWrBlocks ∷ SendScr ∷ SetWrBlkEraseCount
+    ∷ SetClrCardDetect ∷ SdSendOpCond ∷ []
+
+-- ---- which command it is
+
+abbrev pub isApplication : Kind → Bool
+isApplication Plain = false
+isApplication Kind.AppCmd = false
+isApplication Application = true
+
+-- bit 5 shows in answers to 55 and to application commands
+abbrev pub showsApp : Kind → Bool
+showsApp Plain = false
+showsApp Kind.AppCmd = true
+showsApp Application = true
+
+-- the application mark is set exactly if it was command 55
+abbrev pub setsApp : Kind → Bool
+setsApp Plain = false
+setsApp Kind.AppCmd = true
+setsApp Application = false
+
+-- 7 is two rows, by the card's own address and by another
+abbrev pub takes : Rca → Bool → Bool
+takes Unused own = true
+takes Addressed own = true
+takes Own own = own
+takes Other own = not own
+
+-- addressed to another RCA
+abbrev pub misses : Rca → Bool → Bool
+misses Unused own = false
+misses Addressed own = not own
+misses Own own = false
+misses Other own = false
+
+unfoldable pub fits : Bool → ℕ → Bool → Command → Bool
+fits application index own k =
+    eqb (row k .index) index && (Bool·beq (isApplication (row k .kind)) application && takes (row k .rca) own)
+
+-- the first of the list with an index, or another command
+unfoldable pub find : List Command → Bool → ℕ → Bool → Command → Command
+find [] application index own other = other
+find (k ∷ ks) application index own other = cond (fits application index own k) k (find ks application index own other)
+
+-- the argument's RCA is the card's
+abbrev pub own : Bus → ℕ → Bool
+own b argument = eqb (argument / 2 ^ 16) (b .rca)
+
+-- after 55 an index with an A row runs as that; others run as plain
+unfoldable pub commandOf : Bus → ℕ → ℕ → Command
+commandOf b index argument =
+    let plain = find commands false index (own b argument) Unknown in
+    cond (b .app) (find commands true index (own b argument) plain) plain
+
+-- ---- the table read
+
+abbrev pub moves : Command → List Move
+moves k = row k .moves
+
+-- the row has a move from this state
+unfoldable pub has : List Move → ℕ → Bool
+has [] s = false
+has (m ∷ ms) s = eqb (m .from) s || has ms s
+
+-- where it leads; a state with no move stays
+unfoldable pub lead : List Move → ℕ → ℕ
+lead [] s = s
+lead (m ∷ ms) s = cond (eqb (m .from) s) (m .to) (lead ms s)
+
+unfoldable pub legal : Command → State → Bool
+legal k s = has (moves k) (number s)
+
+-- the state after a command, with transfer t where it opens one
+unfoldable pub after : Command → State → State → State
+after k s t = arrive (lead (moves k) (number s)) t
