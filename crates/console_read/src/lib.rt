@@ -2,7 +2,6 @@
 use card::Settings;
 use codec::word;
 use codec::word32;
-use reg_cid::cid::fields;
 use replay_read::hex::unhex;
 
 // Settings, or a line that cannot be read.
@@ -20,7 +19,7 @@ fn settings_of(blocks: u32, polls: u8, content: [u8; 15], flags: u8) -> Settings
     SettingsRead::Read(Settings {
         blocks: blocks,
         polls: polls,
-        cid: fields(word(&content[0..8]), word(&content[8..15])),
+        cid: reg_cid::cid::fields(word(&content[0..8]), word(&content[8..15])),
         permanent: flags & 1 == 1,
         temporary: flags & 2 == 2,
     })
