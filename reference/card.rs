@@ -175,9 +175,11 @@ impl Command {
         matches!(self, SendCsd | SendCid | SendStatus | GoInactiveState | AppCmd)
     }
 
+    /// Any other command that runs clears pending erase marks. SEND_STATUS may come between them (02, order 1),
+    /// SD_STATUS, which has its index after 55, may not.
     fn keeps_erase_marks(self) -> bool {
         use Command::*;
-        matches!(self, GoIdleState | EraseWrBlkStart | EraseWrBlkEnd | Erase)
+        matches!(self, GoIdleState | SendStatus | EraseWrBlkStart | EraseWrBlkEnd | Erase)
     }
 
     fn shows_app_cmd(self) -> bool {

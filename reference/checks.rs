@@ -377,7 +377,7 @@ fn unreached_records() {
     slot.card.erase_end = Some(0);
     assert_eq!(slot.command(38, 0)[2..10], *"10000900");
     slot.card.erase_end = Some(0);
-    assert_eq!(slot.command(13, 0x1_0000)[2..10], *"00002900");
+    assert_eq!(slot.command(16, 512)[2..10], *"00002900");
 
     // R3 and R7 carry no status, so ERASE_RESET waits.
     let mut slot = Slot::new(settings(64));
@@ -387,6 +387,43 @@ fn unreached_records() {
     assert_eq!(slot.command(8, 0x1AA), "08000001AA13");
     assert_eq!(slot.command(55, 0)[2..10], *"00002120");
     assert_eq!(slot.card.status, 0);
+}
+
+/// 02, order 1: SEND_STATUS leaves every erase mark in every state in which it runs, and shows ERASE_RESET only
+/// if it was kept; 55 drops them, and so does SD_STATUS, which has the index of 13 after 55.
+#[test]
+fn status_poll_during_an_erase() {
+    let marks = |card: &Card| (card.erase_start, card.erase_end);
+    let shows_reset = |response: &str| u32::from_str_radix(&response[2..10], 16).unwrap() & ERASE_RESET;
+    let states = [
+        (State::Stby, Transfer::None),
+        (State::Tran, Transfer::None),
+        (State::Data, Transfer::SdStatus),
+        (State::Rcv, Transfer::Write { multiple: false, address: 0, held: false }),
+        (State::Prg, Transfer::None),
+        (State::Dis, Transfer::None),
+    ];
+    for (state, transfer) in states {
+        for pending in [(Some(0), None), (Some(0), Some(512)), (None, Some(512))] {
+            for kept in [0, ERASE_RESET] {
+                let mut slot = Slot::new(settings(64)).select();
+                (slot.card.state, slot.card.transfer, slot.card.status) = (state, transfer, kept);
+                (slot.card.erase_start, slot.card.erase_end) = pending;
+                assert_eq!(shows_reset(&slot.command(13, 0x1_0000)), kept, "{state:?}");
+                assert_eq!((marks(&slot.card), slot.card.status), (pending, 0));
+                assert_eq!(slot.command(13, 0x2_0000), "");
+                assert_eq!(marks(&slot.card), pending);
+                assert_eq!(shows_reset(&slot.command(55, 0x1_0000)), ERASE_RESET, "{state:?}");
+                assert_eq!(marks(&slot.card), (None, None));
+            }
+        }
+    }
+
+    // No history leads to a pending mark after 55.
+    let mut slot = Slot::new(settings(64)).select();
+    (slot.card.erase_start, slot.card.app_mark) = (Some(0), true);
+    assert_eq!(shows_reset(&slot.command(13, 0x1_0000)), ERASE_RESET);
+    assert_eq!((marks(&slot.card), slot.card.state), ((None, None), State::Data));
 }
 
 fn replay(input: &[u8]) -> Vec<u8> {

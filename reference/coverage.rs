@@ -3,6 +3,7 @@
 use crate::calls::{is_good, Call, Frame};
 use crate::card::{self, Card, CrcStatus, State, Transfer};
 use crate::console_coverage::ConsoleCoverage;
+use crate::erase_coverage::{is_pending, EraseCoverage};
 use crate::host::{Step, APPLICATION};
 use std::collections::BTreeMap;
 
@@ -27,10 +28,13 @@ pub struct Coverage {
     rows: BTreeMap<Row, [u64; 10]>,
     /// Of each plain command, how many met a set application mark.
     marked: BTreeMap<Row, u64>,
+    /// Of each call, how many met pending erase marks.
+    pending: BTreeMap<Row, u64>,
     /// Status bits in R1 and R6, by the command answered.
     bits: BTreeMap<(u32, u8), u64>,
     answers: BTreeMap<String, u64>,
     holds: BTreeMap<&'static str, u64>,
+    erase: EraseCoverage,
     console: Option<ConsoleCoverage>,
 }
 
@@ -51,10 +55,14 @@ impl Coverage {
         if step.before.app_mark {
             *self.marked.entry(row.clone()).or_default() += 1;
         }
+        if is_pending(&step.before) {
+            *self.pending.entry(row.clone()).or_default() += 1;
+        }
         self.rows.entry(row).or_default()[step.before.state as usize] += 1;
         if let Some(hold) = hold(call, step) {
             *self.holds.entry(hold).or_default() += 1;
         }
+        self.erase.call(call, step);
         if let Some(console) = &mut self.console {
             console.call(call, step);
         }
@@ -91,6 +99,7 @@ impl Coverage {
         for (hold, count) in &self.holds {
             println!("{count:9}  {hold}");
         }
+        self.erase.print();
         if let Some(console) = &self.console {
             console.print();
         }
@@ -102,7 +111,7 @@ impl Coverage {
         for state in STATES {
             print!("{:>9}", state_name(state));
         }
-        println!("{:>9}", "after 55");
+        println!("{:>9}{:>9}", "after 55", "erasing");
         let mut missing = Vec::new();
         for row in all_rows(self.console.is_some()) {
             let counts = self.rows.get(&row).copied().unwrap_or_default();
@@ -113,7 +122,9 @@ impl Coverage {
                     missing.push(format!("{} in {}", row.name(), state_name(state)));
                 }
             }
-            println!("{:9}", self.marked.get(&row).copied().unwrap_or(0));
+            let [marked, pending] =
+                [&self.marked, &self.pending].map(|of| of.get(&row).copied().unwrap_or(0));
+            println!("{marked:9}{pending:9}");
         }
         println!("cells not reached: {}", list(&missing));
     }

@@ -11,6 +11,7 @@ mod chance;
 mod console_coverage;
 mod console_host;
 mod coverage;
+mod erase_coverage;
 mod host;
 #[allow(dead_code)]
 mod lines;

@@ -240,10 +240,10 @@ impl Host {
         if self.card.block_len != BLOCK as u32 && rng.chance(12) {
             return Call::command(16, BLOCK as u32);
         }
-        let (end, erase) = match (self.card.erase_start, self.card.erase_end) {
-            (Some(_), Some(_)) => (60, 500),
-            (Some(_), None) => (500, 25),
-            _ => (10, 10),
+        let (end, erase, status) = match (self.card.erase_start, self.card.erase_end) {
+            (Some(_), Some(_)) => (60, 500, 250),
+            (Some(_), None) => (500, 25, 250),
+            _ => (10, 10, 50),
         };
         let weights = [
             (50, 16),
@@ -258,7 +258,7 @@ impl Host {
             (end, 33),
             (erase, 38),
             (90, 55),
-            (50, 13),
+            (status, 13),
             (10, 7),
             (4, 0),
             (1, 15),

@@ -12,10 +12,14 @@ use Rattle.wire_response.specs.Response as Wire
 use Rattle.wire_response.specs.Status.{currentState, readyForData}
 use Rattle.wire_packet.specs.Packet.{packet}
 use Rattle.card.specs.declared.Settings.{Settings}
+use Rattle.card.specs.declared.State.{State}
+use Rattle.card.specs.declared.State.the-variants.{Stby, Tran}
+use Rattle.card.specs.declared.EraseMark.the-variants.{At}
 use Rattle.card.specs.Settings.{capacity}
+use Rattle.card.specs.Record.{withErase, withState, withApp, withRca}
 use Rattle.card.specs.Soundness.{equal}
 use Rattle.card.specs.Data.{ACCEPTED}
-use Rattle.card.specs.Step.{Call, powerUp, commandFrame, blockIn, takeBlock, busyOver, World, world, Reply, silent, sent, answered, over, step, start, unpowered}
+use Rattle.card.specs.Step.{Call, powerUp, commandFrame, blockIn, takeBlock, busyOver, World, world, Reply, silent, sent, answered, over, line, step, fresh, start, unpowered}
 
 -- unprotected, CID zero
 abbrev pub sized : ℕ → ℕ → Settings
@@ -179,6 +183,32 @@ selected rest =
     ∷ 0x430000000021 shows 0x0300010500A5
     ∷ 0x4700010000DD shows 0x070000070075 ∷ rest
 
+-- 13, with no error to show
+abbrev pub send-status : Reading
+send-status = 0x4D0001000053 shows 0x0D000009003F
+
+-- a block at 200h; 32 at 0 and 33 at 200h with lines behind each; 38 and what it says; the block that is read at 200h then
+abbrev pub erasing : List Reading → List Reading → List Reading → List ℕ → List Reading
+erasing first second last left =
+    0x580000020043 shows 0x18000009005D
+    ∷ writing block
+    ∷ overs
+    ∷ 0x6000000000DF shows 0x2000000900ED
+    ∷ (first ++ (0x61000002009F shows 0x210000090081 ∷ (second ++ (last ++ (0x510000020079 shows 0x110000090067 ∷ taking left ∷ [])))))
+
+abbrev pub erases : List Reading
+erases = 0x6600000000A5 shows 0x260000090097 ∷ overs ∷ []
+
+-- 38 without both
+abbrev pub out-of-sequence : List Reading
+out-of-sequence = 0x6600000000A5 shows 0x2610000900F7 ∷ []
+
+-- a sound card that no history leads to: erase marks outside tran, or after 55
+abbrev pub pended : State → Bool → World
+pended s app =
+    let c = withErase (withApp (withState (withRca (fresh small) 1) s) app) (record { first = At 0; second = At 0x200 }) in
+    world (record { core = c; line = line false }) (replicate (capacity small) 0)
+
 unfoldable pub examples : List Example
 examples =
     on bench nine
@@ -264,7 +294,25 @@ examples =
     ∷ 0x6100000000B3 shows 0x210000090081
     ∷ 0x6600000000A5 shows 0x2608000900A7
     ∷ 0x6000000200F3 shows 0x2000000900ED
-    ∷ 0x4D0001000053 shows 0x0D00002900DB ∷ []))
+    ∷ 0x500000020015 shows 0x1000002900EF ∷ []))
+    -- 13 between them (02, order 1): after 33, and after both
+    ∷ on small (selected (erasing [] (send-status ∷ []) erases (zeros 512)))
+    ∷ on small (selected (erasing (send-status ∷ []) (send-status ∷ []) erases (zeros 512)))
+    -- one for another card never ran
+    ∷ on small (selected (erasing [] (quietly 0x4D00020000B1 ∷ []) erases (zeros 512)))
+    -- 55 drops the marks; A13, of the same index, is behind it
+    ∷ on small (selected
+    (erasing [] (0x77000100003B shows 0x3700002920D7 ∷ 0x4D000000000D shows 0x0D000009205B ∷ taking (zeros 64) ∷ []) out-of-sequence block))
+    -- and would drop them itself
+    ∷ from (pended Tran true) (0x4D000000000D shows 0x0D00002920BF ∷ taking (zeros 64) ∷ out-of-sequence)
+    -- 13 leaves them outside tran too; 7 does not
+    ∷ from (pended Stby false) (0x4D0001000053 shows 0x0D00000700FB ∷ 0x4700010000DD shows 0x070000270091 ∷ out-of-sequence)
+    -- ERASE_RESET that was kept is shown by 13, once
+    ∷ on small (selected
+    (0x6000000000DF shows 0x2000000900ED
+    ∷ quietly 0x470000000083
+    ∷ 0x4D0001000053 shows 0x0D000027001F
+    ∷ 0x4D0001000053 shows 0x0D00000700FB ∷ []))
     -- row 1: a frame that is not 6 bytes, a block that is not 514
     ∷ on small (refusing (commandFrame (0x40 ∷ []) (replicate 17 0)) 1 ∷ refusing (blockIn (replicate 513 0)) 1 ∷ [])
     -- row 2: an unsound record, before row 3; and row 1 before it

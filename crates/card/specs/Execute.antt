@@ -111,7 +111,7 @@ dropErase c = withErase c noErase
 abbrev pub pending : Core → Bool
 pending c = isSet (c .erase .first) || isSet (c .erase .second)
 
--- any other command that runs, but 0, clears pending erase marks with ERASE_RESET
+-- any other command that runs, but 0 and 13, clears pending erase marks with ERASE_RESET
 unfoldable pub settled : Command → Core → Core
 settled k c = cond (row k .keepsErase) c (cond (pending c) (dropErase (raise c ERASE-RESET)) c)
 

@@ -42,7 +42,7 @@ pub record Row : Type 0 where
   pub kind : Kind
   -- what the upper half of the argument is
   pub rca : Rca
-  -- pending erase marks are its own affair; the other commands drop them
+  -- pending erase marks stay: 0, 32, 33 and 38 see to them themselves, 13 may come between (02, order 1); the other commands drop them
   pub keepsErase : Bool
   -- from which state to which
   pub moves : List Move
@@ -67,7 +67,7 @@ row SendIfCond = columns 8 Plain Unused DROPS (stay (idle ∷ []))
 row SendCsd = columns 9 Plain Addressed DROPS (stay (stby ∷ []))
 row SendCid = columns 10 Plain Addressed DROPS (stay (stby ∷ []))
 row StopTransmission = columns 12 Plain Unused DROPS («data» ⟶ tran ∷ rcv ⟶ prg ∷ [])
-row SendStatus = columns 13 Plain Addressed DROPS (stay stbyToDis)
+row SendStatus = columns 13 Plain Addressed KEEPS (stay stbyToDis)
 row AppCmd = columns 55 Kind.AppCmd Addressed DROPS (stay (idle ∷ stbyToDis))
 row GoInactiveState = columns 15 Plain Addressed DROPS (each stbyToDis ina)
 row SetBlocklen = columns 16 Plain Unused DROPS (stay (tran ∷ []))

@@ -29,7 +29,7 @@ use card_status::ERASE_SEQ_ERROR;
 use card_status::WP_ERASE_SKIP;
 use card_table::keeps_erase;
 
-// Any other command that runs, but 0, clears pending erase marks.
+// Any other command that runs, but 0 and 13, clears pending erase marks.
 pub fn settled(command: Command, c: Core) -> Core
     ensures { λ r. ⌜ r ≡ settled command c ⌝ }
 {

@@ -68,7 +68,7 @@ pub fn row(command: Command) -> Columns
         Command::SendCsd => plain(9, Rca::Addressed, DROPS, 0xF_F_F_F_F_F_3_F_F_F),
         Command::SendCid => plain(10, Rca::Addressed, DROPS, 0xF_F_F_F_F_F_3_F_F_F),
         Command::StopTransmission => plain(12, Rca::Unused, DROPS, 0xF_F_F_7_4_F_F_F_F_F),
-        Command::SendStatus => plain(13, Rca::Addressed, DROPS, 0xF_8_7_6_5_4_3_F_F_F),
+        Command::SendStatus => plain(13, Rca::Addressed, KEEPS, 0xF_8_7_6_5_4_3_F_F_F),
         Command::AppCmd => app_cmd(55, Rca::Addressed, DROPS, 0xF_8_7_6_5_4_3_F_F_0),
         Command::GoInactiveState => plain(15, Rca::Addressed, DROPS, 0xF_9_9_9_9_9_9_F_F_F),
         Command::SetBlocklen => plain(16, Rca::Unused, DROPS, 0xF_F_F_F_F_4_F_F_F_F),
