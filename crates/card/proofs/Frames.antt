@@ -109,7 +109,7 @@ settled-alike k c f =
     (λ u. record { sturdy = pend c f noErase (none-pending (c .settings)); state = refl; settings = refl; marks = refl })
     (λ u. same))
 
-cleared-kept : (r : Response) (c : Core) → (k : Kept) × (cleared r c ≡ withKept c k)
+pub cleared-kept : (r : Response) (c : Core) → (k : Kept) × (cleared r c ≡ withKept c k)
 unfolding cleared
 cleared-kept Response.Nothing c = (_, refl)
 cleared-kept R1 c = (_, refl)

@@ -1,4 +1,5 @@
--- The claims about the card: the bench readings; that every call keeps a sound record sound; demand 3; the registers on the wire.
+-- The claims about the card: the bench readings; that every call keeps a sound record sound; demand 3; the registers on the wire;
+-- SEND_STATUS.
 pub mod Readings
 pub mod Choices
 pub mod Facts
@@ -22,3 +23,5 @@ pub mod Alike
 pub mod Damaged
 pub mod History
 pub mod Registers
+pub mod Unread
+pub mod SendStatus

@@ -14,4 +14,5 @@ pub mod Soundness
 pub mod Step
 pub mod History
 pub mod Registers
+pub mod SendStatus
 pub mod Bench

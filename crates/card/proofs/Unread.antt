@@ -1,0 +1,237 @@
+-- Status bits that are kept are shown and read by nothing: a command, a block and a take do the same whatever they are.
+use mathlib.Core.Path.{_≡_, refl, sym, ap, subst, _∙_}
+use mathlib.Core.Bool.{Bool, true, false, cond, not, _&&_}
+use mathlib.Core.List.{List}
+use mathlib.Core.Option.{Option, none, some}
+use Prim.Native.Nat.{ℕ}
+use lib.Dec.{eqb, leb, ltb}
+use Rattle.wire_frame.specs.Command.{frameCheck}
+use Rattle.wire_frame.specs.declared.command.FrameCheck.{FrameCheck}
+use Rattle.wire_frame.specs.declared.command.FrameCheck.the-variants.{Good, Size, Start, Check as WrongCheck}
+use Rattle.wire_packet.specs.Packet.{packetRight}
+use Rattle.wire_response.specs.Response as Wire
+use Rattle.card.specs.declared.Source.{Source}
+use Rattle.card.specs.declared.Source.the-variants.{Blocks, WriteProtect, SdStatus, WrittenBlocks, Scr}
+use Rattle.card.specs.declared.Sink.the-variants.{Single, Multiple}
+use Rattle.card.specs.declared.Open as Open
+use Rattle.card.specs.declared.Open.{Open}
+use Rattle.card.specs.declared.Open.the-variants.{Read, Write, Busy}
+use Rattle.card.specs.declared.Kept.{Kept}
+use Rattle.card.specs.declared.Core.{Core}
+use Rattle.card.specs.declared.command.Command as Command
+use Rattle.card.specs.declared.command.Command.{Command}
+use Rattle.card.specs.declared.command.Command.the-variants.{GoIdleState, AllSendCid, SendRelativeAddr, SelectCard, DeselectCard, SendIfCond, SendCsd, SendCid, StopTransmission, SendStatus, AppCmd, GoInactiveState, SetBlocklen, ReadSingleBlock, ReadMultipleBlock, SendWriteProt, WriteBlock, WriteMultipleBlock, SetWriteProt, ClrWriteProt, Erase, EraseWrBlkStart, EraseWrBlkEnd, SendNumWrBlocks, SendScr, SetWrBlkEraseCount, SetClrCardDetect, SdSendOpCond, Unknown}
+use Rattle.card.specs.declared.done.Response as Response
+use Rattle.card.specs.declared.done.Response.{Response}
+use Rattle.card.specs.declared.done.Response.the-variants.{R1, R6, Cid, Csd, R3, R7}
+use Rattle.card.specs.declared.done.Effect.{Effect}
+use Rattle.card.specs.declared.done.Done.{Done}
+use Rattle.card.specs.declared.done.Judged.{Judged}
+use Rattle.card.specs.declared.done.Flag.{Flag}
+use Rattle.card.specs.Settings.{BLOCK, capacity, cidBytes, csdBytes}
+use Rattle.card.specs.Record.{withKept, withApp, isSet, address}
+use Rattle.card.specs.State.{number, ina}
+use Rattle.card.specs.Status.{noBits}
+use Rattle.card.specs.Table.{row, commandOf, own, misses, setsApp, legal}
+use Rattle.card.specs.Protect.{whole, guarded, anyGuarded}
+use Rattle.card.specs.Checks.{Check, firstFailure, outside, crossing}
+use Rattle.card.specs.Execute.{ran, raise, moved, checked, window, fitting, dropErase, pending, settled, eraseStart, eraseEnd, skipped, erase, sendOpCond, runAt, run}
+use Rattle.card.specs.Frame.{Message, silence, r1, r6, plain, block, token, finished, Turn, judge, messageOf, cleared, finish, showSd, byCheck, receive}
+use Rattle.card.specs.Data.{takeSource, takeFrom, writeInto, blockInto, overFrom}
+use Rattle.card.proofs.Frames.{cleared-kept}
+
+-- the same choice on both sides
+cond-both : {A : Type 0} (R : A → A → Type 0) (b : Bool) {x x′ y y′ : A} → R x x′ → R y y′ → R (cond b x y) (cond b x′ y′)
+cond-both R true p q = p
+cond-both R false p q = q
+
+-- the same record, but for the status bits
+abbrev pub Same : Core → Core → Type 0
+Same c d = withKept c noBits ≡ withKept d noBits
+
+pub rekept : (c d : Core) → Same c d → d ≡ withKept c (d .kept)
+rekept c d p = ap (λ (x : Core). withKept x (d .kept)) (sym p)
+
+-- ---- commands
+
+record SameDone (d e : Done) : Type 0 where
+  pub core : Same (d .core) (e .core)
+  pub response : d .response ≡ e .response
+  pub effect : d .effect ≡ e .effect
+
+same : {c d : Core} {r : Response} {e : Effect} → Same c d
+    → SameDone (record { core = c; response = r; effect = e }) (record { core = d; response = r; effect = e })
+same p = record { core = p; response = refl; effect = refl }
+
+checked-same : (c : Core) (k : Kept) (checks : List Check) {d e : Done} → SameDone d e → SameDone (checked c checks d) (checked (withKept c k) checks e)
+checked-same c k checks {d} {e} p = go (firstFailure checks)
+  where
+    go : (o : Option ℕ) → SameDone (elim o [ none ↦ d | some n ↦ ran (raise c n) R1 ]) (elim o [ none ↦ e | some n ↦ ran (raise (withKept c k) n) R1 ])
+    go none = p
+    go (some n) = same refl
+
+skipped-same : (c : Core) (b : Kept) (first count : ℕ) → Same (skipped c first count) (skipped (withKept c b) first count)
+unfolding skipped
+skipped-same c b first count = cond-both Same (anyGuarded (whole (c .settings)) (c .marks) first count) refl refl
+
+runAt-same : (k : Command) (c : Core) (b : Kept) (x a : ℕ) → SameDone (runAt k c x a) (runAt k (withKept c b) x a)
+unfolding runAt sendOpCond eraseStart eraseEnd erase
+runAt-same GoIdleState c b x a = same refl
+runAt-same AllSendCid c b x a = same refl
+runAt-same SendRelativeAddr c b x a = same refl
+runAt-same SelectCard c b x a = same refl
+runAt-same DeselectCard c b x a = same refl
+runAt-same SendIfCond c b x a = same refl
+runAt-same SendCsd c b x a = same refl
+runAt-same SendCid c b x a = same refl
+runAt-same StopTransmission c b x a = same refl
+runAt-same SendStatus c b x a = same refl
+runAt-same AppCmd c b x a = same refl
+runAt-same GoInactiveState c b x a = same refl
+runAt-same SetBlocklen c b x a = same (cond-both Same (leb 1 x && leb x BLOCK) refl refl)
+runAt-same ReadSingleBlock c b x a = checked-same c b _ (same refl)
+runAt-same ReadMultipleBlock c b x a = checked-same c b _ (same refl)
+runAt-same SendWriteProt c b x a = checked-same c b _ (same refl)
+runAt-same WriteBlock c b x a = checked-same c b _ (same refl)
+runAt-same WriteMultipleBlock c b x a = checked-same c b _ (same refl)
+runAt-same SetWriteProt c b x a = checked-same c b _ (same refl)
+runAt-same ClrWriteProt c b x a = checked-same c b _ (same refl)
+runAt-same Erase c b x a =
+    cond-both SameDone (isSet (c .erase .first) && isSet (c .erase .second))
+    (cond-both SameDone (ltb (address (c .erase .second)) (address (c .erase .first))) (same refl)
+    (same (ap (λ (x : Core). moved Erase (dropErase x)) (skipped-same c b _ _))))
+    (same refl)
+runAt-same EraseWrBlkStart c b x a = checked-same c b _ (same refl)
+runAt-same EraseWrBlkEnd c b x a = cond-both SameDone (isSet (c .erase .first)) (checked-same c b _ (same refl)) (same refl)
+runAt-same Command.SdStatus c b x a = same refl
+runAt-same SendNumWrBlocks c b x a = same refl
+runAt-same SendScr c b x a = same refl
+runAt-same SetWrBlkEraseCount c b x a = same refl
+runAt-same SetClrCardDetect c b x a = same refl
+runAt-same SdSendOpCond c b x a =
+    cond-both SameDone (eqb (window x) 0) (same refl)
+    (cond-both SameDone (eqb (fitting x) 0) (same refl)
+    (cond-both SameDone (eqb (c .bus .polls) 0) (same refl) (same refl)))
+runAt-same Unknown c b x a = same refl
+
+settled-same : (k : Command) (c : Core) (b : Kept) → Same (settled k c) (settled k (withKept c b))
+unfolding settled
+settled-same k c b = cond-both Same (row k .keepsErase) refl (cond-both Same (pending c) refl refl)
+
+run-same : (k : Command) (c d : Core) → Same c d → (x : ℕ) → SameDone (run k c x) (run k d x)
+run-same k c d p x = subst (λ (e : Core). SameDone (run k c x) (run k e x)) (sym (rekept c d p)) (runAt-same k c (d .kept) x _)
+
+-- ---- what a call comes to, but for the status that a response shows
+
+abbrev pub statusless : Message → Message
+statusless silence = silence
+statusless (r1 index word) = r1 index 0
+statusless (r6 rca word) = r6 rca 0
+statusless (plain s) = plain s
+statusless (block payload) = block payload
+statusless (token n) = token n
+statusless finished = finished
+
+pub record SameTurn (t u : Turn) : Type 0 where
+  pub core : Same (t .core) (u .core)
+  pub flag : t .flag ≡ u .flag
+  pub message : statusless (t .message) ≡ statusless (u .message)
+  pub effect : t .effect ≡ u .effect
+  pub payload : t .payload ≡ u .payload
+
+-- one that shows no status
+turned : {c d : Core} {f : Flag} {m : Message} {e : Effect} {s : List ℕ} → Same c d
+    → SameTurn (record { core = c; flag = f; message = m; effect = e; payload = s }) (record { core = d; flag = f; message = m; effect = e; payload = s })
+turned p = record { core = p; flag = refl; message = refl; effect = refl; payload = refl }
+
+message-same : (k : Command) (n : ℕ) (d e : Done) → Same (d .core) (e .core) → (r : Response)
+    → statusless (messageOf k n d r) ≡ statusless (messageOf k n e r)
+unfolding messageOf
+message-same k n d e p Response.Nothing = refl
+message-same k n d e p R1 = refl
+message-same k n d e p R6 = ap (λ (c : Core). r6 (c .bus .rca) 0) p
+message-same k n d e p Cid = ap (λ (c : Core). plain (Wire.r2Bytes (cidBytes (c .settings)))) p
+message-same k n d e p Csd = ap (λ (c : Core). plain (Wire.r2Bytes (csdBytes (c .csd)))) p
+message-same k n d e p (R3 ocr) = refl
+message-same k n d e p (R7 voltage pattern) = refl
+
+cleared-same : (r : Response) (c : Core) → Same (cleared r c) c
+cleared-same r c = ap (λ (x : Core). withKept x noBits) (cleared-kept r c .1)
+
+finish-same : (k : Command) (n : ℕ) (d e : Done) → SameDone d e → SameTurn (finish k n d) (finish k n e)
+finish-same k n d e s =
+    record {
+      core =
+          ap (λ (x : Core). withApp x (setsApp (row k .kind)))
+          (cleared-same (d .response) (d .core) ∙ s .core ∙ sym (cleared-same (e .response) (e .core)));
+      flag = refl;
+      message = ap (λ (r : Response). statusless (messageOf k n d r)) (s .response) ∙ message-same k n d e (s .core) (e .response);
+      effect = s .effect;
+      payload = refl;
+    }
+
+module _ (c : Core) (b : Kept) where
+  judge-same : (index argument : ℕ) → SameTurn (showSd c (judge c index argument)) (showSd (withKept c b) (judge (withKept c b) index argument))
+  unfolding judge showSd
+  judge-same index argument =
+      let k = commandOf (c .bus) index argument in
+      let R : Judged → Judged → Type 0 = λ i j. SameTurn (showSd c i) (showSd (withKept c b) j) in
+      cond-both R (legal k (c .bus .state))
+      (cond-both R (misses (row k .rca) (own (c .bus) argument)) (turned refl)
+      (finish-same k (number (c .bus .state)) _ _ (run-same k (settled k c) (settled k (withKept c b)) (settled-same k c b) argument)))
+      (turned refl)
+
+  byCheck-same : (f : FrameCheck) → SameTurn (byCheck f c) (byCheck f (withKept c b))
+  unfolding byCheck
+  byCheck-same (Good index argument) = judge-same index argument
+  byCheck-same Size = turned refl
+  byCheck-same Start = turned refl
+  byCheck-same WrongCheck = turned refl
+
+  pub receive-same : (frame : List ℕ) → SameTurn (receive c frame) (receive (withKept c b) frame)
+  unfolding receive
+  receive-same frame = cond-both SameTurn (eqb (number (c .bus .state)) ina) (turned refl) (byCheck-same (frameCheck frame))
+
+  -- ---- data
+
+  source-same : (s : Source) (memory : List ℕ) → SameTurn (takeSource s c memory) (takeSource s (withKept c b) memory)
+  unfolding takeSource
+  source-same (Blocks multiple address held) memory =
+      cond-both SameTurn held (turned refl)
+      (cond-both SameTurn (outside (capacity (c .settings)) address) (turned refl)
+      (cond-both SameTurn (crossing (c .length) address) (turned refl) (turned refl)))
+  source-same (WriteProtect address) memory = turned refl
+  source-same SdStatus memory = turned refl
+  source-same WrittenBlocks memory = turned refl
+  source-same Scr memory = turned refl
+
+  pub take-same : (o : Open) (memory : List ℕ) → SameTurn (takeFrom o c memory) (takeFrom o (withKept c b) memory)
+  unfolding takeFrom
+  take-same Open.Nothing memory = turned refl
+  take-same (Read s) memory = source-same s memory
+  take-same (Write s) memory = turned refl
+  take-same (Busy s) memory = turned refl
+
+  write-same : (multiple : Bool) (address : ℕ) (held : Bool) (packet : List ℕ)
+      → SameTurn (writeInto multiple address held c packet) (writeInto multiple address held (withKept c b) packet)
+  unfolding writeInto
+  write-same multiple address held packet =
+      cond-both SameTurn held (turned refl)
+      (cond-both SameTurn (not (packetRight packet)) (turned (cond-both Same multiple refl refl))
+      (cond-both SameTurn (outside (capacity (c .settings)) address) (turned refl)
+      (cond-both SameTurn (guarded (whole (c .settings)) (c .marks) address) (turned refl) (turned refl))))
+
+  pub block-same : (o : Open) (packet : List ℕ) → SameTurn (blockInto o c packet) (blockInto o (withKept c b) packet)
+  unfolding blockInto
+  block-same Open.Nothing packet = turned refl
+  block-same (Read s) packet = turned refl
+  block-same (Write (Single address held)) packet = write-same false address held packet
+  block-same (Write (Multiple address held)) packet = write-same true address held packet
+  block-same (Busy s) packet = turned refl
+
+  pub over-same : (o : Open) → SameTurn (overFrom o c) (overFrom o (withKept c b))
+  unfolding overFrom
+  over-same Open.Nothing = turned refl
+  over-same (Read s) = turned refl
+  over-same (Write s) = turned refl
+  over-same (Busy s) = turned refl
