@@ -3,7 +3,7 @@ use mathlib.Core.Path.{_≡_, refl, sym, ap, subst, _∙_}
 use mathlib.Core.Bool.{Bool, true, false, cond, not, _&&_}
 use mathlib.Core.List.{List}
 use mathlib.Core.Option.{Option, none, some}
-use Prim.Native.Nat.{ℕ}
+use Prim.Native.Nat.{ℕ, _+_, _-_, _/_}
 use lib.Dec.{eqb, leb, ltb}
 use Rattle.wire_frame.specs.Command.{frameCheck}
 use Rattle.wire_frame.specs.declared.command.FrameCheck.{FrameCheck}
@@ -35,7 +35,7 @@ use Rattle.card.specs.Status.{noBits}
 use Rattle.card.specs.Table.{row, commandOf, own, misses, setsApp, legal}
 use Rattle.card.specs.Protect.{whole, guarded, anyGuarded}
 use Rattle.card.specs.Checks.{Check, firstFailure, outside, crossing}
-use Rattle.card.specs.Execute.{ran, raise, moved, checked, window, fitting, dropErase, pending, settled, eraseStart, eraseEnd, skipped, erase, sendOpCond, runAt, run}
+use Rattle.card.specs.Execute.{ran, raise, moved, checked, readBlocks, writeBlocks, setMark, window, fitting, dropErase, pending, settled, eraseStart, eraseEnd, skipped, erased, erase, sendOpCond, runAt, run}
 use Rattle.card.specs.Frame.{Message, silence, r1, r6, plain, block, token, finished, Turn, judge, messageOf, cleared, finish, showSd, byCheck, receive}
 use Rattle.card.specs.Data.{takeSource, takeFrom, writeInto, blockInto, overFrom}
 use Rattle.card.proofs.Frames.{cleared-kept}
@@ -63,10 +63,10 @@ same : {c d : Core} {r : Response} {e : Effect} → Same c d
     → SameDone (record { core = c; response = r; effect = e }) (record { core = d; response = r; effect = e })
 same p = record { core = p; response = refl; effect = refl }
 
-checked-same : (c : Core) (k : Kept) (checks : List Check) {d e : Done} → SameDone d e → SameDone (checked c checks d) (checked (withKept c k) checks e)
-checked-same c k checks {d} {e} p = go (firstFailure checks)
+checked-same : (c : Core) (b : Kept) (checks : List Check) {d e : Done} → SameDone d e → SameDone (checked c checks d) (checked (withKept c b) checks e)
+checked-same c b checks {d} {e} p = go (firstFailure checks)
   where
-    go : (o : Option ℕ) → SameDone (elim o [ none ↦ d | some n ↦ ran (raise c n) R1 ]) (elim o [ none ↦ e | some n ↦ ran (raise (withKept c k) n) R1 ])
+    go : (o : Option ℕ) → SameDone (elim o [ none ↦ d | some n ↦ ran (raise c n) R1 ]) (elim o [ none ↦ e | some n ↦ ran (raise (withKept c b) n) R1 ])
     go none = p
     go (some n) = same refl
 
@@ -74,8 +74,31 @@ skipped-same : (c : Core) (b : Kept) (first count : ℕ) → Same (skipped c fir
 unfolding skipped
 skipped-same c b first count = cond-both Same (anyGuarded (whole (c .settings)) (c .marks) first count) refl refl
 
+erased-same : (c : Core) (b : Kept) (from to : ℕ) → SameDone (erased c from to) (erased (withKept c b) from to)
+erased-same c b from to =
+    let first = from / BLOCK in
+    same (ap (λ (x : Core). moved Erase (dropErase x)) (skipped-same c b first (to / BLOCK + 1 - first)))
+
+erase-same : (c : Core) (b : Kept) → SameDone (erase c) (erase (withKept c b))
+unfolding erase
+erase-same c b =
+    let first = c .erase .first in
+    let second = c .erase .second in
+    cond-both SameDone (isSet first && isSet second)
+    (cond-both SameDone (ltb (address second) (address first)) (same refl) (erased-same c b (address first) (address second)))
+    (same refl)
+
+read-same : (c : Core) (b : Kept) (k : Command) (multiple : Bool) (a : ℕ) → SameDone (readBlocks k c multiple a) (readBlocks k (withKept c b) multiple a)
+read-same c b k multiple a = checked-same c b _ (same refl)
+
+write-same : (c : Core) (b : Kept) (k : Command) (multiple : Bool) (a : ℕ) → SameDone (writeBlocks k c multiple a) (writeBlocks k (withKept c b) multiple a)
+write-same c b k multiple a = checked-same c b _ (same refl)
+
+mark-same : (c : Core) (b : Kept) (k : Command) (value : Bool) (a : ℕ) → SameDone (setMark k c value a) (setMark k (withKept c b) value a)
+mark-same c b k value a = checked-same c b _ (same refl)
+
 runAt-same : (k : Command) (c : Core) (b : Kept) (x a : ℕ) → SameDone (runAt k c x a) (runAt k (withKept c b) x a)
-unfolding runAt sendOpCond eraseStart eraseEnd erase
+unfolding runAt sendOpCond eraseStart eraseEnd
 runAt-same GoIdleState c b x a = same refl
 runAt-same AllSendCid c b x a = same refl
 runAt-same SendRelativeAddr c b x a = same refl
@@ -89,18 +112,14 @@ runAt-same SendStatus c b x a = same refl
 runAt-same AppCmd c b x a = same refl
 runAt-same GoInactiveState c b x a = same refl
 runAt-same SetBlocklen c b x a = same (cond-both Same (leb 1 x && leb x BLOCK) refl refl)
-runAt-same ReadSingleBlock c b x a = checked-same c b _ (same refl)
-runAt-same ReadMultipleBlock c b x a = checked-same c b _ (same refl)
+runAt-same ReadSingleBlock c b x a = read-same c b ReadSingleBlock false a
+runAt-same ReadMultipleBlock c b x a = read-same c b ReadMultipleBlock true a
 runAt-same SendWriteProt c b x a = checked-same c b _ (same refl)
-runAt-same WriteBlock c b x a = checked-same c b _ (same refl)
-runAt-same WriteMultipleBlock c b x a = checked-same c b _ (same refl)
-runAt-same SetWriteProt c b x a = checked-same c b _ (same refl)
-runAt-same ClrWriteProt c b x a = checked-same c b _ (same refl)
-runAt-same Erase c b x a =
-    cond-both SameDone (isSet (c .erase .first) && isSet (c .erase .second))
-    (cond-both SameDone (ltb (address (c .erase .second)) (address (c .erase .first))) (same refl)
-    (same (ap (λ (x : Core). moved Erase (dropErase x)) (skipped-same c b _ _))))
-    (same refl)
+runAt-same WriteBlock c b x a = write-same c b WriteBlock false a
+runAt-same WriteMultipleBlock c b x a = write-same c b WriteMultipleBlock true a
+runAt-same SetWriteProt c b x a = mark-same c b SetWriteProt true a
+runAt-same ClrWriteProt c b x a = mark-same c b ClrWriteProt false a
+runAt-same Erase c b x a = erase-same c b
 runAt-same EraseWrBlkStart c b x a = checked-same c b _ (same refl)
 runAt-same EraseWrBlkEnd c b x a = cond-both SameDone (isSet (c .erase .first)) (checked-same c b _ (same refl)) (same refl)
 runAt-same Command.SdStatus c b x a = same refl
@@ -212,10 +231,10 @@ module _ (c : Core) (b : Kept) where
   take-same (Write s) memory = turned refl
   take-same (Busy s) memory = turned refl
 
-  write-same : (multiple : Bool) (address : ℕ) (held : Bool) (packet : List ℕ)
+  sink-same : (multiple : Bool) (address : ℕ) (held : Bool) (packet : List ℕ)
       → SameTurn (writeInto multiple address held c packet) (writeInto multiple address held (withKept c b) packet)
   unfolding writeInto
-  write-same multiple address held packet =
+  sink-same multiple address held packet =
       cond-both SameTurn held (turned refl)
       (cond-both SameTurn (not (packetRight packet)) (turned (cond-both Same multiple refl refl))
       (cond-both SameTurn (outside (capacity (c .settings)) address) (turned refl)
@@ -225,8 +244,8 @@ module _ (c : Core) (b : Kept) where
   unfolding blockInto
   block-same Open.Nothing packet = turned refl
   block-same (Read s) packet = turned refl
-  block-same (Write (Single address held)) packet = write-same false address held packet
-  block-same (Write (Multiple address held)) packet = write-same true address held packet
+  block-same (Write (Single address held)) packet = sink-same false address held packet
+  block-same (Write (Multiple address held)) packet = sink-same true address held packet
   block-same (Busy s) packet = turned refl
 
   pub over-same : (o : Open) → SameTurn (overFrom o c) (overFrom o (withKept c b))
