@@ -196,6 +196,7 @@ erasing first second last left =
     ∷ 0x6000000000DF shows 0x2000000900ED
     ∷ (first ++ (0x61000002009F shows 0x210000090081 ∷ (second ++ (last ++ (0x510000020079 shows 0x110000090067 ∷ taking left ∷ [])))))
 
+-- 38 with both
 abbrev pub erases : List Reading
 erases = 0x6600000000A5 shows 0x260000090097 ∷ overs ∷ []
 
@@ -204,8 +205,8 @@ abbrev pub out-of-sequence : List Reading
 out-of-sequence = 0x6600000000A5 shows 0x2610000900F7 ∷ []
 
 -- a sound card that no history leads to: erase marks outside tran, or after 55
-abbrev pub pended : State → Bool → World
-pended s app =
+abbrev pub erase-pending : State → Bool → World
+erase-pending s app =
     let c = withErase (withApp (withState (withRca (fresh small) 1) s) app) (record { first = At 0; second = At 0x200 }) in
     world (record { core = c; line = line false }) (replicate (capacity small) 0)
 
@@ -304,9 +305,9 @@ examples =
     ∷ on small (selected
     (erasing [] (0x77000100003B shows 0x3700002920D7 ∷ 0x4D000000000D shows 0x0D000009205B ∷ taking (zeros 64) ∷ []) out-of-sequence block))
     -- and would drop them itself
-    ∷ from (pended Tran true) (0x4D000000000D shows 0x0D00002920BF ∷ taking (zeros 64) ∷ out-of-sequence)
+    ∷ from (erase-pending Tran true) (0x4D000000000D shows 0x0D00002920BF ∷ taking (zeros 64) ∷ out-of-sequence)
     -- 13 leaves them outside tran too; 7 does not
-    ∷ from (pended Stby false) (0x4D0001000053 shows 0x0D00000700FB ∷ 0x4700010000DD shows 0x070000270091 ∷ out-of-sequence)
+    ∷ from (erase-pending Stby false) (0x4D0001000053 shows 0x0D00000700FB ∷ 0x4700010000DD shows 0x070000270091 ∷ out-of-sequence)
     -- ERASE_RESET that was kept is shown by 13, once
     ∷ on small (selected
     (0x6000000000DF shows 0x2000000900ED
