@@ -44,7 +44,7 @@ pub record StatusSent (w : World) (before : List ℕ) (r : Result) : Type 0 wher
 abbrev pub SendStatusShows : Type 0
 SendStatusShows = (w : World) (frame out : List ℕ) → SendsStatus w frame out → StatusSent w out (step w (commandFrame frame out))
 
--- ---- a list of calls, with any number of them anywhere
+-- ---- a list of calls, with any number of them wherever they run
 
 -- a call, or 13 with its frame and its buffer
 pub data Entry : Type 0 where
@@ -70,7 +70,7 @@ pub record AlikeButStatus (a b : World) (c : Call) : Type 0 where
   pub block : blockOf c (step a c .out) ≡ blockOf c (step b c .out)
   pub world : SameButStatus (next a c) (next b c)
 
--- a runs through the list with those that run as SEND_STATUS, b through the calls alone
+-- a runs through the list with the inserted ones, each of which runs as SEND_STATUS where it stands; b through the calls alone
 abbrev pub AgreeButStatus : World → World → List Entry → Type 0
 AgreeButStatus a b [] = Unit {0}
 AgreeButStatus a b (call c ∷ h) = AlikeButStatus a b c × AgreeButStatus (next a c) (next b c) h
