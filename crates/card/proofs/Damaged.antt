@@ -61,7 +61,7 @@ unfolding refusal applies
 frame-spared w frame out s h room =
     simp (eq-eqb (length frame) 6 h, s .core, eq-eqb (length (w .memory)) _ (s .memory), le-ltb (length out) 17 room)
 
-framed-runs : (w : World) (frame out : List ℕ) → Sound w → length frame ≡ FRAME → ROOM ≤ length out
+pub framed-runs : (w : World) (frame out : List ℕ) → Sound w → length frame ≡ FRAME → ROOM ≤ length out
     → framed w frame out ≡ show w out (receive (w .card .core) frame)
 unfolding framed
 framed-runs w frame out s h room = ap (λ o. unless o w out (show w out (receive (w .card .core) frame))) (frame-spared w frame out s h room)

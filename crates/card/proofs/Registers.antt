@@ -69,7 +69,7 @@ module _ (f : Format) (trip : RoundTrip f) (vs : List ℕ) (fit : fits (f .slots
 
 -- ---- the fields of a sound record fit
 
-cid-fits : (s : Settings) → allowed s ≡ true → fits (cid .slots) (cidValues (s .cid)) ≡ true
+pub cid-fits : (s : Settings) → allowed s ≡ true → fits (cid .slots) (cidValues (s .cid)) ≡ true
 unfolding allowed
 cid-fits s e =
     let fit = fits (cid .slots) (cidValues (s .cid)) in
@@ -87,7 +87,7 @@ pair-fits n (Pair size mult) e =
     (g .sizeFits, g .multFits)
 pair-fits n NoPair e = (omega arith, omega arith)
 
-csd-fits : (s : Settings) → fits (csd .slots) (csdValues (csdOf s)) ≡ true
+pub csd-fits : (s : Settings) → fits (csd .slots) (csdValues (csdOf s)) ≡ true
 unfolding fits csdOf
 csd-fits s =
     let p = pair-fits (s .blocks) (sizePair (s .blocks)) refl in
@@ -111,11 +111,11 @@ equal-eq (x ∷ xs) (y ∷ ys) e =
 
 -- ---- the two registers, in a call that is not refused
 
-cid-shape : (s : List ℕ) → right cid s ≡ true → registerRight s ≡ true
+pub cid-shape : (s : List ℕ) → right cid s ≡ true → registerRight s ≡ true
 unfolding right registerRight width judged
 cid-shape s e = e
 
-csd-shape : (s : List ℕ) → right csd s ≡ true → registerRight s ≡ true
+pub csd-shape : (s : List ℕ) → right csd s ≡ true → registerRight s ≡ true
 unfolding right registerRight width judged
 csd-shape s e = e
 

@@ -1,0 +1,17 @@
+-- `silence` wants an empty reply.
+use mathlib.Core.Path.{refl}
+use borrow.Author.Tests.{eq-eqb, ne-eqb}
+use Rattle.host.specs.Reply.{judge}
+use Rattle.host_reply.proofs.silence.Statement.{statement}
+use Rattle.host_reply.proofs.silence.Tie as tie
+
+empty : tie.Need-returns
+unfolding judge
+empty c = rw (eq-eqb _ _ (c .if1 .taken)) refl
+
+heard : tie.Need-returns-2
+unfolding judge
+heard c = rw (ne-eqb _ _ (c .if1 .left)) refl
+
+pub silence-spec : {M : Type 1} → statement M
+silence-spec = tie.close (tie.spec empty heard)

@@ -1,0 +1,2 @@
+-- What the code of a reply hands on.
+pub mod Read

@@ -1,0 +1,2 @@
+-- What the code of a step hands on.
+pub mod Report
