@@ -1,10 +1,16 @@
 //! Differential tester: `differ SEED CALLS CMD_A CMD_B` drives two replay programs with
 //! the same random histories and stops at the first answer in which they differ;
-//! `differ --console SEED CALLS CMD_A CMD_B` does so with two console programs.
+//! `differ --console SEED CALLS CMD_A CMD_B` does so with two console programs, and
+//! `differ --host SEED RUNS CMD` compares a host program with the reference host (bring_ups.rs).
 //!
 //! The reference card runs along inside, only so that the generator knows the state
 //! reached; the answers compared are those of the two programs.
 
+#[allow(dead_code)]
+mod bring_up;
+mod bring_up_cards;
+mod bring_up_coverage;
+mod bring_ups;
 mod calls;
 mod card;
 mod chance;
@@ -37,8 +43,13 @@ struct Run<'a> {
 
 fn main() -> ExitCode {
     let arguments: Vec<String> = std::env::args().skip(1).collect();
+    if let [flag, seed, runs, program] = arguments.as_slice() {
+        if let ("--host", Ok(seed), Ok(runs)) = (flag.as_str(), seed.parse(), runs.parse()) {
+            return bring_ups(seed, runs, program);
+        }
+    }
     let Some(run) = read_arguments(&arguments) else {
-        eprintln!("usage: differ [--console] SEED CALLS CMD_A CMD_B");
+        eprintln!("usage: differ [--console] SEED CALLS CMD_A CMD_B, or differ --host SEED RUNS CMD");
         return ExitCode::from(2);
     };
     let mut coverage = Coverage::new(run.is_console);
@@ -46,6 +57,20 @@ fn main() -> ExitCode {
         Ok((calls, lives)) => {
             coverage.print();
             println!("no difference in {calls} calls, {lives} {}, seed {}", run.life()[1], run.seed);
+            ExitCode::SUCCESS
+        }
+        Err(report) => {
+            println!("{report}");
+            ExitCode::FAILURE
+        }
+    }
+}
+
+fn bring_ups(seed: u64, runs: u64, program: &str) -> ExitCode {
+    match bring_ups::differ(seed, runs, program) {
+        Ok(coverage) => {
+            coverage.print();
+            println!("no difference in {runs} bring-ups, seed {seed}");
             ExitCode::SUCCESS
         }
         Err(report) => {

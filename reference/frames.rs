@@ -17,15 +17,21 @@
 //! end                  the newline of the line before is left out
 //! ```
 //! Text behind # and empty lines are skipped. With the argument `without-copies`, so are
-//! the copies.
+//! the copies. With the argument `answers` it gives the answers of the reference card (answers.rs).
 
+mod answers;
 mod card;
+#[allow(dead_code)]
+mod lines;
 
+use answers::Answers;
 use card::{crc16, crc7, BLOCK, PACKET};
 use std::io::{self, Write};
 
 fn main() -> Result<(), String> {
-    let without_copies = std::env::args().nth(1).as_deref() == Some("without-copies");
+    let argument = std::env::args().nth(1);
+    let without_copies = argument.as_deref() == Some("without-copies");
+    let mut answers = (argument.as_deref() == Some("answers")).then(Answers::new);
     let mut output = Vec::new();
     for (number, line) in io::stdin().lines().enumerate() {
         let line = line.map_err(|error| error.to_string())?;
@@ -41,13 +47,20 @@ fn main() -> Result<(), String> {
             Some((count, item)) => (count.parse().map_err(|_| format!("line {}: {line}", number + 1))?, item),
             None => (1, text),
         };
-        let bytes = replay_line(item).ok_or_else(|| format!("line {}: {line}", number + 1))?;
         for _ in 0..count {
-            output.extend_from_slice(&bytes);
-            output.push(b'\n');
+            let bytes = match &mut answers {
+                Some(answers) => answers.line(item),
+                None => replay_line(item).map(ended),
+            };
+            output.extend(bytes.ok_or_else(|| format!("line {}: {line}", number + 1))?);
         }
     }
     io::stdout().write_all(&output).map_err(|error| error.to_string())
+}
+
+fn ended(mut line: Vec<u8>) -> Vec<u8> {
+    line.push(b'\n');
+    line
 }
 
 fn replay_line(item: &str) -> Option<Vec<u8>> {

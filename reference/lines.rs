@@ -190,7 +190,7 @@ fn sized(digits: &[u8], size: usize) -> Result<Vec<u8>, Refusal> {
     up_to(digits, size).and_then(|bytes| if bytes.len() == size { Ok(bytes) } else { Err(Refusal::Size) })
 }
 
-fn up_to(digits: &[u8], size: usize) -> Result<Vec<u8>, Refusal> {
+pub fn up_to(digits: &[u8], size: usize) -> Result<Vec<u8>, Refusal> {
     if digits.len() % 2 != 0 || digits.len() > 2 * size {
         return Err(Refusal::Size);
     }

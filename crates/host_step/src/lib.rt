@@ -3,7 +3,6 @@
 ghost use mathlib.Core.Path.{_≡_};
 ghost use Rattle.host.specs.Host.{start, started, step, begun, stepped};
 
-mod sequence;
 mod turn;
 
 use host::Beginning;

@@ -1,13 +1,10 @@
 // What a step comes to: the next frame, or an end.
 ghost use mathlib.Core.Path.{_≡_};
-ghost use mathlib.Core.Bool.{_&&_};
 ghost use Prim.Native.Nat.{_≤_};
-ghost use lib.Dec.{leb};
 ghost use lib.ListN.{length};
 ghost use Rattle.codec.specs.Answer.{encoded};
-ghost use Rattle.host.specs.Host.{begin, limited, unsound, ofPoll, answer, counted, sends, goes, follows, hears, stepped};
+ghost use Rattle.host.specs.Host.{begin, limited, unsound, answer, counted, sends, goes, follows, hears, stepped};
 ghost use Rattle.host_step.specs.Report.{reported};
-use crate::sequence::row;
 use codec::Encoded;
 use host::Answer;
 use host::Command;
@@ -18,6 +15,9 @@ use host::Next;
 use host::Phase;
 use host::Stepped;
 use host_reply::hear;
+use host_sequence::counts;
+use host_sequence::exhausted;
+use host_sequence::row;
 
 // 1 to 1,000 polls.
 pub(crate) fn limited(limit: u16) -> bool
@@ -76,12 +76,11 @@ fn end(host: Host, found: Found, answer: Answer) -> Stepped
     }
 }
 
-// The polls are counted where A41 is sent.
 fn counted(index: u8, polls: u16) -> u16
     requires { ⌜ polls ≤ 1000 ⌝ }
     ensures { λ r. ⌜ r ≡ counted index polls ⌝ }
 {
-    if index == 41 {
+    if counts(index) {
         return polls + 1;
     }
     polls
@@ -116,13 +115,6 @@ pub(crate) fn sends(host: Host, found: Found, command: Command, out: &mut [u8]) 
             found,
         },
     }
-}
-
-// A command of a poll, which are 55 and A41, and the limit's polls are used up.
-fn exhausted(index: u8, limit: u16, polls: u16) -> bool
-    ensures { λ r. ⌜ r ≡ (ofPoll index && leb limit polls) ⌝ }
-{
-    ((index == 55) | (index == 41)) & (limit <= polls)
 }
 
 // The next command, unless it is one of a poll and none is left.

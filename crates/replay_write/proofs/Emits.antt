@@ -10,7 +10,7 @@ use lib.ListN.{length, take, drop, set, length-append, length-drop}
 use lib.Seq.{take-all, take-at, drop-cons, drop-drop, drop-append-add, take-set-le, drop-set-lt, getD-set-same, lt-length-set}
 use Rattle.codec.specs.Answer.{BUFFER, done, refuse}
 use Rattle.replay_write.specs.declared.Kind.{Kind}
-use Rattle.replay_write.specs.declared.Kind.the-variants.{Response, Block, Memory}
+use Rattle.replay_write.specs.declared.Kind.the-variants.{Command, Response, Block, Memory}
 use Rattle.replay_read.specs.Hex.{hex}
 use Rattle.replay_write.specs.Write.{word, fitted}
 use Rattle.replay_read.proofs.Digits.{length-hex}
@@ -74,6 +74,7 @@ module _ (tag digits text : List ℕ) (e : ℕ) (four : length tag ≡ 4) (he : 
 
 -- a response or a block, from the digits that were filled in
 length-word : (kind : Kind) → length (word kind) ≡ 4
+length-word Command = refl
 length-word Response = refl
 length-word Block = refl
 length-word Memory = refl

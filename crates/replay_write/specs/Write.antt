@@ -9,10 +9,11 @@ use Rattle.card.specs.Data.{ACCEPTED}
 use Rattle.card.specs.Step.{Reply, silent, sent, answered, over}
 use Rattle.replay_read.specs.Hex.{hex}
 use Rattle.replay_write.specs.declared.Kind.{Kind}
-use Rattle.replay_write.specs.declared.Kind.the-variants.{Response, Block, Memory}
+use Rattle.replay_write.specs.declared.Kind.the-variants.{Command, Response, Block, Memory}
 
--- what is sent is a response, a data block, or a block of the program's memory
+-- what is sent is a command, a response, a data block, or a block of the program's memory
 abbrev pub word : Kind → List ℕ
+word Command = 99 ∷ 109 ∷ 100 ∷ 9 ∷ []
 word Response = 114 ∷ 115 ∷ 112 ∷ 9 ∷ []
 word Block = 98 ∷ 108 ∷ 107 ∷ 9 ∷ []
 word Memory = 109 ∷ 101 ∷ 109 ∷ 9 ∷ []

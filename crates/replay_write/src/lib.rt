@@ -16,8 +16,9 @@ use text::bytes_line;
 use text::put;
 use text::refusal;
 
-// What is sent is a response, a data block, or a block of the program's memory.
+// What is sent is a command, a response, a data block, or a block of the program's memory.
 pub enum Kind {
+    Command,
     Response,
     Block,
     Memory,

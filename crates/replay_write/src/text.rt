@@ -41,6 +41,7 @@ fn tag(kind: Kind) -> [u8; 4]
     ensures { λ r. ⌜ r ≡ word kind ⌝ }
 {
     match kind {
+        Kind::Command => [b'c', b'm', b'd', b'\t'],
         Kind::Response => [b'r', b's', b'p', b'\t'],
         Kind::Block => [b'b', b'l', b'k', b'\t'],
         Kind::Memory => [b'm', b'e', b'm', b'\t'],

@@ -31,7 +31,7 @@ buffer : tie.Need-returns-2
 unfolding step
 buffer c =
     let a = c .before .before .before .before .before .before .args in
-    rw (sym (c .before .before .before .unsound .ensures) ∙ c .before .before .if1 .left, lt-ltb _ _ (c .before .if2 .taken))
+    rw (sym (c .before .before .before .unsound .ensures) ∙ c .before .before .if1 .left, lt-ltb (length (a .out .now)) ROOM (c .before .if2 .taken))
     (ap (λ (r : Stepped). stepped r (a .out .now)) (c .refuse2 .ensures))
 
 -- behind both rows
