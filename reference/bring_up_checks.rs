@@ -250,7 +250,7 @@ fn transcripts() {
             assert_eq!(written(&[$limit], &lines), expected, $name);
         )*};
     }
-    check!("1000" "ready" "3" "three-polls" "1000" "silence-to-8" "1000" "damaged-r1" "1000" "wrong-pattern");
+    check!("1000" "ready" "4" "three-polls" "1000" "silence-to-8" "1000" "damaged-r1" "1000" "wrong-pattern");
     check!("3" "busy-to-the-limit" "1" "ready-at-limit-1" "1" "busy-at-limit-1" "1000" "strange-windows");
     check!("1000" "error-bits" "1000" "carriage-return" "1000" "far-too-long-line" "1001" "limit-1001");
 }

@@ -1,4 +1,7 @@
-// Feeds stored answers of a card to the host, one file after the other, each with a limit of its own.
+// Feeds stored answers of a card to the host, one file after the other: a line of `list` has the limit and the file of each.
+ghost use Prim.Native.Nat.{_≤_};
+ghost use lib.ListN.{length};
+
 fn bring_up(name: &[u8], limit: &[u8]) {
     let fd = os::open_read(name);
     if fd < 0 {
@@ -14,94 +17,56 @@ fn bring_up(name: &[u8], limit: &[u8]) {
     libc::close(fd);
 }
 
-// With the limit that the program has by itself.
-fn fed(name: &[u8]) {
-    bring_up(name, b"1000");
+// Where a byte is, from a place on; the length where it is not.
+fn find(text: &[u8], from: usize, byte: u8) -> usize
+    requires { ⌜ from ≤ length (now text) ⌝ }
+    ensures { λ r. ⌜ (from ≤ r) × (r ≤ length (now (text .entry))) ⌝ }
+{
+    let mut i = from;
+    while i < text.len() {
+        if text[i] == byte {
+            break;
+        }
+        i += 1;
+    }
+    i
 }
 
-// Cards that are ready, at last or at once, or never.
-fn cards() {
-    fed(b"ready.in");
-    bring_up(b"three-polls.in", b"4");
-    bring_up(b"busy-to-the-limit.in", b"3");
-    bring_up(b"ready-at-limit-1.in", b"1");
-    bring_up(b"busy-at-limit-1.in", b"1");
+// The history of a line; gives the place behind it, or the end where no whole line is left.
+fn line(list: &[u8], at: usize) -> usize
+    requires { ⌜ at ≤ length (now list) ⌝ }
+    ensures { λ r. ⌜ r ≤ length (now (list .entry)) ⌝ }
+{
+    let tab = find(list, at, 9);
+    let end = find(list, tab, 10);
+    if end >= list.len() {
+        return end;
+    }
+    let name = tab + 1;
+    if name > end {
+        return list.len();
+    }
+    bring_up(&list[name..end], &list[at..tab]);
+    end + 1
 }
 
-// Responses that the host takes.
-fn accepted() {
-    fed(b"strange-windows.in");
-    fed(b"error-bits.in");
-    fed(b"reserved-bits-of-r7.in");
-    fed(b"second-address.in");
-}
-
-// Responses at which it stops.
-fn stopped() {
-    fed(b"silence-to-8.in");
-    fed(b"damaged-r1.in");
-    fed(b"wrong-pattern.in");
-    fed(b"wrong-voltage.in");
-    fed(b"heard-after-0.in");
-}
-
-// .. behind A41.
-fn later() {
-    fed(b"r3-without-its-ones.in");
-    fed(b"r6-of-another-index.in");
-    fed(b"silence-to-9.in");
-    fed(b"damaged-r1-selecting.in");
-}
-
-// .. with a register.
-fn registers() {
-    fed(b"wrong-check-of-the-cid.in");
-    fed(b"wrong-check-of-the-csd.in");
-    fed(b"short-r2.in");
-}
-
-// Lines that are no answer.
-fn lines() {
-    fed(b"refused-line.in");
-    fed(b"block-line.in");
-    fed(b"small-letters.in");
-    fed(b"odd-digits.in");
-}
-
-// .. and lines of other lengths.
-fn more_lines() {
-    fed(b"no-digits.in");
-    fed(b"carriage-return.in");
-    fed(b"longest-line.in");
-    fed(b"too-long-line.in");
-    fed(b"far-too-long-line.in");
-}
-
-// The end of the input.
-fn ends() {
-    fed(b"input-ends.in");
-    fed(b"input-ends-at-once.in");
-    fed(b"no-last-newline.in");
-    fed(b"answers-left-over.in");
-}
-
-// Limits.
-fn limits() {
-    bring_up(b"limit-0.in", b"0");
-    bring_up(b"limit-1001.in", b"1001");
-    bring_up(b"limit-x.in", b"x");
-    bring_up(b"limit-empty.in", b"");
-    bring_up(b"limit-with-zeros.in", b"0001000");
+// A proved loop has to end: it counts its lines down.
+fn all(list: &[u8]) {
+    let mut at: usize = 0;
+    let mut lines: usize = 1000;
+    while lines > 0 {
+        lines -= 1;
+        if at >= list.len() {
+            break;
+        }
+        at = line(list, at);
+    }
 }
 
 fn main() {
-    cards();
-    accepted();
-    stopped();
-    later();
-    registers();
-    lines();
-    more_lines();
-    ends();
-    limits();
+    let mut text = io::buffer();
+    let fd = os::open_read(b"list");
+    let n = io::read_full(fd, &mut text);
+    libc::close(fd);
+    all(&text[..n]);
 }

@@ -1,13 +1,10 @@
 // A reply of the card, held against the answer that a command expects. Each kind's decoder first; what it read is taken apart by
 // let .. else.
 ghost use mathlib.Core.Path.{_≡_};
-ghost use mathlib.Core.Bool.{_&&_};
 ghost use mathlib.Core.List.{[]};
-ghost use lib.Dec.{eqb};
 ghost use Rattle.codec.specs.Answer.{why};
 ghost use Rattle.wire_response.specs.Response.{decodeR2};
 ghost use Rattle.wire_response_decode.specs.Reply.{r1Read, r3Read, r6Read, r7Read};
-ghost use Rattle.host.specs.Sequence.{VOLTAGE, PATTERN};
 ghost use Rattle.host.specs.Reply.{judge};
 ghost use Rattle.host_reply.specs.Read.{heard, r2Read};
 use host::Found;
@@ -15,6 +12,7 @@ use host::Heard;
 use host::Judgement;
 use host::Kind;
 use host::Reason;
+use host_sequence::echoes;
 use wire_response_decode::R1Read;
 use wire_response_decode::R3Read;
 use wire_response_decode::R6Read;
@@ -105,13 +103,7 @@ fn r3(reply: &[u8]) -> Judgement
     Judgement::Busy
 }
 
-// Voltage and pattern are those that were sent.
-fn echoes(voltage: u8, pattern: u8) -> bool
-    ensures { λ r. ⌜ r ≡ (eqb voltage VOLTAGE && eqb pattern PATTERN) ⌝ }
-{
-    (voltage == 1) & (pattern == 0xAA)
-}
-
+// Voltage and pattern must be those that were sent.
 fn r7(reply: &[u8]) -> Judgement
     ensures { λ r. ⌜ r ≡ judge Kind.R7 0 (now (reply .entry)) ⌝ }
 {

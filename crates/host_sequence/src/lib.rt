@@ -1,8 +1,8 @@
-// The sequence, a row for each command, and what makes a poll.
+// The sequence, a row for each command; what makes a poll, and what echoes 8.
 ghost use mathlib.Core.Path.{_≡_};
 ghost use mathlib.Core.Bool.{_&&_};
 ghost use lib.Dec.{eqb, leb};
-ghost use Rattle.host.specs.Sequence.{SD-SEND-OP-COND, columns, row};
+ghost use Rattle.host.specs.Sequence.{VOLTAGE, PATTERN, SD-SEND-OP-COND, columns, row};
 ghost use Rattle.host.specs.Host.{ofPoll};
 use host::Command;
 use host::Kind;
@@ -49,4 +49,11 @@ pub fn exhausted(index: u8, limit: u16, polls: u16) -> bool
     ensures { λ r. ⌜ r ≡ (ofPoll index && leb limit polls) ⌝ }
 {
     ((index == 55) | (index == 41)) & (limit <= polls)
+}
+
+// An R7 echoes 8: voltage and pattern are those that were sent.
+pub fn echoes(voltage: u8, pattern: u8) -> bool
+    ensures { λ r. ⌜ r ≡ (eqb voltage VOLTAGE && eqb pattern PATTERN) ⌝ }
+{
+    (voltage == 1) & (pattern == 0xAA)
 }
