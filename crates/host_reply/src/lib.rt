@@ -1,12 +1,13 @@
 // A reply of the card, held against the answer that a command expects. Each kind's decoder first; what it read is taken apart by
 // let .. else.
 ghost use mathlib.Core.Path.{_≡_};
-ghost use mathlib.Core.List.{[]};
+ghost use mathlib.Core.Bool.{cond};
+ghost use lib.Dec.{eqb};
 ghost use Rattle.codec.specs.Answer.{why};
 ghost use Rattle.wire_response.specs.Response.{decodeR2};
 ghost use Rattle.wire_response_decode.specs.Reply.{r1Read, r3Read, r6Read, r7Read};
-ghost use Rattle.host.specs.Reply.{judge};
-ghost use Rattle.host_reply.specs.Read.{heard, r2Read};
+ghost use Rattle.host.specs.Reply.{judge, accepted};
+ghost use Rattle.host_reply.specs.Read.{heard, received};
 use host::Found;
 use host::Heard;
 use host::Judgement;
@@ -23,10 +24,10 @@ use wire_response_decode::decode_r3;
 use wire_response_decode::decode_r6;
 use wire_response_decode::decode_r7;
 
-// The register of an R2 was read into the bytes lent for it, or the number of the refusal.
+// What `decode_r2` says by its number.
 enum R2Read {
     Register,
-    Refused(u8),
+    Refused,
 }
 
 fn silence(reply: &[u8]) -> Judgement
@@ -145,65 +146,54 @@ fn r6(found: Found, reply: &[u8]) -> Heard
     }
 }
 
-// The register's sixteen bytes, its own check among them.
-fn r2(reply: &[u8], register: &mut [u8; 16]) -> R2Read
-    ensures { λ r. ⌜ r2Read r (now (register .exit)) ≡ decodeR2 (now (reply .entry)) ⌝ }
+fn r2_read(number: u8) -> R2Read
+    ensures { λ r. ⌜ r ≡ cond (eqb number 0) R2Read.Register R2Read.Refused ⌝ }
+{
+    if number == 0 {
+        return R2Read::Register;
+    }
+    R2Read::Refused
+}
+
+// The register's sixteen bytes, its own check among them. A reply that the decoder refuses leaves them as they were.
+fn r2(reply: &[u8], register: &mut [u8; 16]) -> Judgement
+    ensures { λ r.
+        ⌜ (r ≡ accepted (decodeR2 (now (reply .entry))) (λ s. Judgement.Expected))
+        × (now (register .exit) ≡ received (decodeR2 (now (reply .entry))) (now (register .entry))) ⌝ }
 {
     let mut number: u8 = 0;
     let s = decode_r2(reply, &mut number);
-    if number != 0 {
-        return R2Read::Refused(number);
-    }
+    let read = r2_read(number);
+    let R2Read::Register = read else {
+        return Judgement::Unexpected(Reason::Refused(number));
+    };
     codec::copy(register, s);
-    R2Read::Register
-}
-
-fn r2_number(read: R2Read) -> u8
-    ensures { λ r. ⌜ r ≡ why (r2Read read []) ⌝ }
-{
-    match read {
-        R2Read::Register => 0,
-        R2Read::Refused(k) => k,
-    }
+    Judgement::Expected
 }
 
 fn cid(found: Found, reply: &[u8]) -> Heard
     ensures { λ r. ⌜ r ≡ heard Kind.Cid 0 found (now (reply .entry)) ⌝ }
 {
-    let mut register = [0u8; 16];
-    let read = r2(reply, &mut register);
-    let R2Read::Register = read else {
-        return refused(found, r2_number(read));
-    };
     let rca = found.rca;
+    let mut cid = found.cid;
     let csd = found.csd;
+    let judgement = r2(reply, &mut cid);
     Heard {
-        judgement: Judgement::Expected,
-        found: Found {
-            rca,
-            cid: register,
-            csd,
-        },
+        judgement,
+        found: Found { rca, cid, csd },
     }
 }
 
 fn csd(found: Found, reply: &[u8]) -> Heard
     ensures { λ r. ⌜ r ≡ heard Kind.Csd 0 found (now (reply .entry)) ⌝ }
 {
-    let mut register = [0u8; 16];
-    let read = r2(reply, &mut register);
-    let R2Read::Register = read else {
-        return refused(found, r2_number(read));
-    };
     let rca = found.rca;
     let cid = found.cid;
+    let mut csd = found.csd;
+    let judgement = r2(reply, &mut csd);
     Heard {
-        judgement: Judgement::Expected,
-        found: Found {
-            rca,
-            cid,
-            csd: register,
-        },
+        judgement,
+        found: Found { rca, cid, csd },
     }
 }
 

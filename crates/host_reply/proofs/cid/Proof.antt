@@ -1,47 +1,26 @@
 -- `cid` keeps the register.
-use mathlib.Core.Path.{sym, ap, _∙_}
-use mathlib.Core.List.{[]}
+use mathlib.Core.Path.{_≡_, refl, ap, _∙_}
+use mathlib.Core.List.{List}
+use Prim.Native.Nat.{ℕ}
 use borrow.Author.Needs.{needs}
-use Rattle.codec.specs.Answer.{why}
-use Rattle.host.specs.declared.Judgement.the-variants.{Expected}
-use Rattle.host.specs.Reply.{judge, learn, withCid}
-use Rattle.host_reply.specs.Read.{r2Read}
-use Rattle.host_reply.proofs.Accepted.{taken, unexpected, learnt, unlearnt}
+use Rattle.codec.specs.Answer.{Outcome, done, refused}
+use Rattle.wire_response.specs.Response.{decodeR2}
+use Rattle.host.specs.declared.Found.{Found}
+use Rattle.host.specs.Reply.{judge, learn, told, withCid}
+use Rattle.host_reply.specs.Read.{received}
 use Rattle.host_reply.proofs.cid.Statement.{statement}
 use Rattle.host_reply.proofs.cid.Tie as tie
 
-refused : tie.Need-returns
-unfolding judge learn
-refused c =
-    let at = c .before .before in
-    let call = at .before .before .r2 in
-    let told = at .enum-told2 .given .1 in
-    let q = ap (λ x. r2Read x (call .last .1 .0)) told in
-    let n = c .before .r2-number .ensures ∙ ap (λ x. why (r2Read x [])) told ∙ sym (ap why q) in
-    let f = at .before .before .before .before .before .args .found in
-    c .refused .ensures
-    ∙ (λ i. record {
-      judgement = unexpected (call .ensures) _ _ (λ register. Expected) q n i;
-      found = unlearnt (call .ensures) _ f (withCid f) q i;
-    })
+kept : (o : Outcome (List ℕ)) (f : Found) → withCid f (received o (f .cid)) ≡ told o f (withCid f)
+kept (done register) f = refl
+kept (refused k) f = refl
 
-register : tie.Need-returns-2
+heard : tie.Need-returns
 unfolding judge learn
-register c =
-    let at = c .before in
-    let call = at .before .before .r2 in
-    let q = ap (λ x. r2Read x (call .last .1 .0)) (at .enum-told .given .1) in
-    let f = at .before .before .before .before .before .args .found in
-    λ i. record { judgement = taken (call .ensures) _ (λ register. Expected) q i; found = learnt (call .ensures) _ f (withCid f) q i }
+heard c =
+    let a = c .before .before .before .before .before .args in
+    let found = ap (withCid (a .found)) (c .r2 .ensures .1) ∙ kept (decodeR2 (a .reply .now)) (a .found) in
+    λ i. record { judgement = c .r2 .ensures .0 i; found = found i }
 
 pub cid-spec : {M : Type 1} → statement M
-cid-spec =
-    tie.close
-    (tie.spec
-    (λ c κs. search needs)
-    (λ c. search needs)
-    (λ c. search needs)
-    (λ c κs. search needs)
-    (λ c κs. search needs)
-    refused
-    register)
+cid-spec = tie.close (tie.spec (λ c κs. search needs) heard)
