@@ -2,7 +2,7 @@
 use bring_up_line::blocks::blocks;
 use host::Answer;
 use host::Command;
-use host::Host;
+use host::Found;
 use host::Phase;
 use host::Reason;
 use host_sequence::row;
@@ -41,13 +41,12 @@ fn block_count(csd: [u8; 16]) -> u32 {
     }
 }
 
-fn selected(host: Host) {
-    let found = host.found;
+fn selected(found: Found, polls: u16) {
     let csd = found.csd;
     say(b"selected\t");
     hex(found.rca);
     say(b"\t");
-    decimal(host.polls as u64);
+    decimal(polls as u64);
     say(b"\t");
     decimal(block_count(csd) as u64);
     say(b"\n");
@@ -74,16 +73,16 @@ fn why(reason: Reason) {
 }
 
 // The line of an answer that is no frame. No step is refused here: the limit was accepted, and the buffer has room.
-pub(crate) fn ended(answer: Answer, host: Host) {
+pub(crate) fn ended(answer: Answer, found: Found, polls: u16) {
     match answer {
-        Answer::Selected => selected(host),
+        Answer::Selected => selected(found, polls),
         Answer::Stopped { command, reason } => {
             stopped(command);
             why(reason);
         }
         Answer::NotReady => {
             say(b"busy\t");
-            decimal(host.polls as u64);
+            decimal(polls as u64);
             say(b"\n");
         }
         _ => {}
@@ -91,8 +90,7 @@ pub(crate) fn ended(answer: Answer, host: Host) {
 }
 
 // The card's line is no answer to the command that was sent, or the input has ended.
-pub(crate) fn no_answer(host: Host) {
-    let phase = host.phase;
+pub(crate) fn no_answer(phase: Phase) {
     let Phase::Sent(command) = phase else {
         return;
     };

@@ -57,7 +57,8 @@ fn bring_up(fd: i32, begun: Host) {
         host = stepped.host;
         let answer = stepped.answer;
         let Answer::Sent(n) = answer else {
-            end::ended(answer, host);
+            let found = host.found;
+            end::ended(answer, found, host.polls);
             return;
         };
         send(&out, n);
@@ -65,7 +66,8 @@ fn bring_up(fd: i32, begun: Host) {
         unread = heard.unread;
         let read = heard.answer;
         let AnswerRead::Bytes(count) = read else {
-            end::no_answer(host);
+            let phase = host.phase;
+            end::no_answer(phase);
             return;
         };
         size = count;
