@@ -44,11 +44,11 @@ pub fn counts(index: u8) -> bool
     index == 41
 }
 
-// A command of a poll, which are 55 and A41, and the limit's polls are used up.
+// A command of a poll, which are 55 and A41, and one more would be over the limit.
 pub fn exhausted(index: u8, limit: u16, polls: u16) -> bool
     ensures { λ r. ⌜ r ≡ (ofPoll index && leb limit polls) ⌝ }
 {
-    ((index == 55) | (index == 41)) & (limit <= polls)
+    ((index == 55) | (index == 41)) & (polls as u32 + 1 > limit as u32)
 }
 
 // An R7 echoes 8: voltage and pattern are those that were sent.
