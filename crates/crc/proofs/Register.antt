@@ -2,7 +2,7 @@
 -- Assumes nothing.
 use mathlib.Core.Path.{_≡_, refl, sym, ap, _∙_}
 use mathlib.Core.Bool.{Bool, true, false, xor}
-use mathlib.Core.List.{List, [], _∷_, _++_}
+use mathlib.Core.List.{List, [], _∷_, _++_, append-nil, append-assoc}
 use Prim.Native.Nat.{ℕ, zero, suc, _≤_, _<_}
 use native.Mathlib.Omega.{arith}
 use lib.ListN.{length, replicate, length-append, length-replicate}
@@ -63,6 +63,21 @@ pub length-turns : (p : List Bool) (k : ℕ) (r : List Bool) → length r ≡ le
 unfolding turns
 length-turns p zero r h = h
 length-turns p (suc k) r h = length-turns p k (shift p r) (length-shift p r h)
+
+pub turns-xor : (p : List Bool) (k : ℕ) (r s : List Bool) → length r ≡ length p → length s ≡ length p → turns p k (r ⊕ s) ≡ turns p k r ⊕ turns p k s
+unfolding turns
+turns-xor p zero r s hr hs = refl
+turns-xor p (suc k) r s hr hs =
+    ap (turns p k) (shift-xor p r s hr hs) ∙ turns-xor p k (shift p r) (shift p s) (length-shift p r hr) (length-shift p s hs)
+
+-- as many turns as there are zeros at the top take nothing off: what is below them moves up
+pub turns-up : (p : List Bool) (k : ℕ) (r : List Bool) → turns p k (replicate k false ++ r) ≡ r ++ replicate k false
+unfolding turns shift
+turns-up p zero r = sym (append-nil r)
+turns-up p (suc k) r =
+    ap (turns p k) (append-assoc (replicate k false) r (false ∷ []))
+    ∙ turns-up p k (up r)
+    ∙ append-assoc r (false ∷ []) (replicate k false)
 
 -- the first of the bits that enter, and the others behind it
 enter-split : (r : List Bool) (b : Bool) (bs : List Bool) → r ⊕ (b ∷ []) ⊕ (false ∷ bs) ≡ r ⊕ (b ∷ bs)

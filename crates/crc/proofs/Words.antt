@@ -3,7 +3,7 @@ use mathlib.Core.Path.{_≡_, refl, sym, ap, ap₂, _∙_}
 use mathlib.Core.Bool.{Bool, true, false, xor, cond}
 use mathlib.Core.List.{List, [], _∷_, _++_}
 use Prim.Native.Nat.{ℕ, zero, suc, _+_, _-_, _*_, _/_, _%_, _^_, _<_, _≤_}
-use native.Mathlib.Nat.{mod-lt, add-zero, mod-mod, mod-eq-of-lt}
+use native.Mathlib.Nat.{mod-lt, add-zero, mod-mod, mod-eq-of-lt, div-eq-of-lt}
 use native.Mathlib.Numerals.{add-one}
 use native.Mathlib.Omega.{arith}
 use borrow.Author.Tests.{eq-eqb, ne-eqb}
@@ -39,13 +39,20 @@ unfolding bits _⊕_
 bits-xor zero a b = refl
 bits-xor (suc w) a b = ap₂ {A = Bool} {B = List Bool} (λ x r. x ∷ r) (bit-xor a b w) (bits-xor w a b)
 
--- the word shifted by one place, without what left it
-up : (v r : ℕ) → bits (suc v) (r * 2 ^ 1 % 2 ^ suc v) ≡ bits v r ++ (false ∷ [])
+bits-zero : (k : ℕ) → bits k 0 ≡ replicate k false
 unfolding bits
-up v r =
-    bits-cong (suc v) (r * 2 ^ 1 % 2 ^ suc v) (r * 2 ^ 1 + 0) (mod-mod (r * 2 ^ 1) (2 ^ suc v) ∙ ap (λ (x : ℕ). x % 2 ^ suc v) (sym (add-zero (r * 2 ^ 1))))
-    ∙ ap (λ (k : ℕ). bits k (r * 2 ^ 1 + 0)) (sym (add-one v))
-    ∙ bits-join v 1 r 0 (pow-pos 1)
+bits-zero zero = refl
+bits-zero (suc k) = ap₂ {A = Bool} {B = List Bool} (λ x r. x ∷ r) (ap (λ (x : ℕ). eqb (x % 2) 1) (div-eq-of-lt (pow-pos k))) (bits-zero k)
+
+-- a word of v + k bits shifted by k places, without what left it
+pub moved : (v k r : ℕ) → bits (v + k) (r * 2 ^ k % 2 ^ (v + k)) ≡ bits v r ++ replicate k false
+moved v k r =
+    bits-cong (v + k) (r * 2 ^ k % 2 ^ (v + k)) (r * 2 ^ k + 0) (mod-mod (r * 2 ^ k) (2 ^ (v + k)) ∙ ap (λ (x : ℕ). x % 2 ^ (v + k)) (sym (add-zero (r * 2 ^ k))))
+    ∙ bits-join v k r 0 (pow-pos k)
+    ∙ ap (λ (l : List Bool). bits v r ++ l) (bits-zero k)
+
+up : (v r : ℕ) → bits (suc v) (r * 2 ^ 1 % 2 ^ suc v) ≡ bits v r ++ (false ∷ [])
+up v r = ap (λ (k : ℕ). bits k (r * 2 ^ 1 % 2 ^ k)) (sym (add-one v)) ∙ moved v 1 r
 
 -- one turn of a register of width v + 1 in a word of that width, by the bit that leaves it
 pub shift-zero : (v q r : ℕ) → bit r v ≡ false → bits (suc v) (r * 2 ^ 1 % 2 ^ suc v) ≡ shift (bits (suc v) q) (bits (suc v) r)
@@ -108,13 +115,6 @@ byte-enters w p r x b rest hp h8 e =
     (run-turns p (bits w r) (bits 8 b) (length-bits w r ∙ sym hp) (simp (length-bits, hp) h8)
     ∙ ap₂ (λ (k : ℕ) (q : List Bool). turns p k q) (length-bits 8 b)
     (sym (bits-xor w r x ∙ ap (λ (q : List Bool). bits w r ⊕ q) e ∙ xor-pad (bits w r) (bits 8 b) (w - 8) l)))
-
--- a byte at the top of a word of 16 bits
-pub byte-top : (b : ℕ) → bits 16 (b * 2 ^ 8 % 2 ^ 16) ≡ bits 8 b ++ replicate 8 false
-unfolding bits
-byte-top b =
-    bits-cong 16 (b * 2 ^ 8 % 2 ^ 16) (b * 2 ^ 8 + 0) (mod-mod (b * 2 ^ 8) (2 ^ 16) ∙ ap (λ (x : ℕ). x % 2 ^ 16) (sym (add-zero (b * 2 ^ 8))))
-    ∙ bits-join 8 8 b 0 (pow-pos 8)
 
 -- a turn of the loop over bytes: what is left to run stays the same check
 pub byte-fed : (w : ℕ) (p : List Bool) (s : List ℕ) (i r x q : ℕ) (whole : List Bool) → length p ≡ w → 8 ≤ w → i < length s

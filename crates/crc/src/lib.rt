@@ -4,12 +4,12 @@ ghost use mathlib.Core.Path.{_≡_};
 ghost use mathlib.Core.Bool.{false};
 ghost use mathlib.Core.List.{[], _∷_, _++_};
 ghost use Rattle.crc.specs.Bits.{bits};
-ghost use Rattle.crc.specs.Crc.{poly7, poly16, shift, turns, crc7Of, crc16Of};
+ghost use Rattle.crc.specs.Crc.{poly7, shift, turns, crc7Of, crc16Of};
+
+mod table16;
 
 // x^7 + x^3 + 1, with the register one place up
 const POLY7: u8 = 0x12;
-// x^16 + x^12 + x^5 + 1
-const POLY16: u16 = 0x1021;
 
 // One turn of the register.
 fn shift7(r: u8) -> u8
@@ -17,16 +17,6 @@ fn shift7(r: u8) -> u8
 {
     if r & 0x80 != 0 {
         (r << 1) ^ POLY7
-    } else {
-        r << 1
-    }
-}
-
-fn shift16(r: u16) -> u16
-    ensures { λ q. ⌜ bits 16 q ≡ shift poly16 (bits 16 r) ⌝ }
-{
-    if r & 0x8000 != 0 {
-        (r << 1) ^ POLY16
     } else {
         r << 1
     }
@@ -40,18 +30,6 @@ fn turn7(r: u8) -> u8
     let mut k: u8 = 0;
     while k < 8 {
         q = shift7(q);
-        k += 1;
-    }
-    q
-}
-
-fn turn16(r: u16) -> u16
-    ensures { λ q. ⌜ bits 16 q ≡ turns poly16 8 (bits 16 r) ⌝ }
-{
-    let mut q = r;
-    let mut k: u8 = 0;
-    while k < 8 {
-        q = shift16(q);
         k += 1;
     }
     q
@@ -74,10 +52,12 @@ pub fn crc7(s: &[u8]) -> u8
 pub fn crc16(s: &[u8]) -> u16
     ensures { λ r. ⌜ r ≡ crc16Of (now (s .entry)) ⌝ }
 {
+    // in a local: named in the loop, it would be built for every byte
+    let t = table16::table();
     let mut r: u16 = 0;
     let mut i: usize = 0;
     while i < s.len() {
-        r = turn16(r ^ ((s[i] as u16) << 8));
+        r = table16::turn(&t, r ^ ((s[i] as u16) << 8));
         i += 1;
     }
     r
