@@ -28,7 +28,7 @@ Poly16Detects = Detects poly16 (8 * (512 + 2)) 3
 abbrev pub InPlaceTabulates : Type 0
 InPlaceTabulates = (p : List Bool) (t : List ℕ) → length t ≡ 256 → T (inPlace p 0 t) → Tabulates p t
 
--- eight turns at once, at every width: what is below the top byte moves up, and the entry of that byte is added
+-- eight turns at once, at every width from eight on: what is below the top byte moves up, and the entry of that byte is added
 abbrev pub TurnsByTable : Type 0
 TurnsByTable = (v : ℕ) (p : List Bool) (t : List ℕ) → length p ≡ 8 + v → Tabulates p t → (r : ℕ) → r < 2 ^ (8 + v)
     → bits (8 + v) (bitXor (r * 2 ^ 8 % 2 ^ (8 + v)) (getD t (r / 2 ^ v) 0)) ≡ turns p 8 (bits (8 + v) r)
