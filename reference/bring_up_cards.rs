@@ -4,9 +4,9 @@ use crate::bring_up::{read_answer, seal, step_line, Command, Frame, Step, LONGES
 use crate::chance::Rng;
 use crate::lines::{push_hex, Bench};
 
-/// A card of random settings, or one that answers as it should with random content.
+/// A card of random settings, locked where it has a password, or one that answers as it should with random content.
 pub enum AnyCard<'a> {
-    Reference(&'a mut Bench),
+    Reference { bench: &'a mut Bench, is_locked: bool },
     MadeUp { busy: u64 },
 }
 
@@ -19,15 +19,22 @@ impl<'a> AnyCard<'a> {
         let count = unit * (1 + rng.below(2048 / unit));
         let (polls, flags) = (rng.pick(&[0, 0, 1, 2, 7, 15]), rng.below(4));
         let (high, low) = (rng.next() >> 8, rng.next());
-        let power = format!("power\t{count:08X}\t{polls:02X}\t{high:014X}{low:016X}\t{flags:02X}");
+        let length = if rng.chance(50) { 0 } else { 1 + rng.below(16) };
+        let password = (rng.next(), rng.next());
+        let mut power = format!("power\t{count:08X}\t{polls:02X}\t{high:014X}{low:016X}\t{flags:02X}");
+        power += &format!("\t{length:02X}\t{:016X}{:016X}", password.0, password.1);
         assert_eq!(bench.answer(power.as_bytes()), b"none\n", "{power}");
-        AnyCard::Reference(bench)
+        AnyCard::Reference { bench, is_locked: length > 0 }
+    }
+
+    pub fn is_locked(&self) -> bool {
+        matches!(self, AnyCard::Reference { is_locked: true, .. })
     }
 
     /// The line of the answer, without its newline.
     pub fn answer(&mut self, rng: &mut Rng, command: Command, frame: &Frame) -> Vec<u8> {
         match self {
-            AnyCard::Reference(bench) => {
+            AnyCard::Reference { bench, .. } => {
                 let line = step_line(&Step::Send(*frame));
                 bench.answer(line.trim_ascii_end()).trim_ascii_end().to_vec()
             }

@@ -27,7 +27,7 @@ const READY: &str = "rsp 3F80FF8000FF";
 const BUSY: &str = "rsp 3F00FF8000FF";
 const CID: &str = "rsp 3F00000000000000000000000000000001";
 const R6: &str = "rsp 0300010500A5";
-const CSD: &str = "rsp 3F0026003217598003C0004F80824000BF";
+const CSD: &str = "rsp 3F002600321F598003C0004F8082400053";
 const R1_7: &str = "rsp 070000070075";
 
 /// A card that is ready at the first poll.
@@ -203,12 +203,12 @@ fn limits() {
     assert_eq!(read_limit(&[]), Some(1000));
 }
 
-/// Block counts of cards, and of size pairs that no card here has.
+/// Block counts of cards, locked ones too, and of size pairs that no card here has.
 #[test]
 fn block_counts() {
-    for (count, polls) in [(4u32, 0u8), (64, 15), (2048, 1)] {
+    for (count, polls, length) in [(4u32, 0u8, 0), (64, 15, 16), (2048, 1, 1), (32, 0, 4)] {
         let mut bench = Bench::console();
-        let power = format!("power\t{count:08X}\t{polls:02X}\t{:030X}\t00", 7);
+        let power = format!("power\t{count:08X}\t{polls:02X}\t{:030X}\t00\t{length:02X}\t{:032X}", 7, 9);
         assert_eq!(bench.answer(power.as_bytes()), b"none\n");
         assert_eq!(brought_up(bench), format!("selected\t0001\t{}\t{count}", polls + 1));
     }
@@ -252,5 +252,5 @@ fn transcripts() {
     }
     check!("1000" "ready" "4" "three-polls" "1000" "silence-to-8" "1000" "damaged-r1" "1000" "wrong-pattern");
     check!("3" "busy-to-the-limit" "1" "ready-at-limit-1" "1" "busy-at-limit-1" "1000" "strange-windows");
-    check!("1000" "error-bits" "1000" "carriage-return" "1000" "far-too-long-line" "1001" "limit-1001");
+    check!("1000" "error-bits" "1000" "locked" "1000" "carriage-return" "1000" "far-too-long-line" "1001" "limit-1001");
 }

@@ -11,6 +11,8 @@ pub struct BringUpCoverage {
     selected: BTreeMap<u16, u64>,
     busy: BTreeMap<u16, u64>,
     no_limit: u64,
+    /// Ends of cards that started locked: selected, busy, stopped.
+    locked: [u64; 3],
     addresses: BTreeSet<u16>,
     block_counts: BTreeSet<u32>,
     damages: BTreeMap<Damage, u64>,
@@ -31,7 +33,15 @@ const COMMANDS: [Command; 8] = [
 const REASONS: [Reason; 5] = [Reason::Size, Reason::Wrong, Reason::Heard, Reason::Echo, Reason::Line];
 
 impl BringUpCoverage {
-    pub fn end(&mut self, end: Option<End>) {
+    pub fn end(&mut self, end: Option<End>, is_locked: bool) {
+        if let (true, Some(end)) = (is_locked, end) {
+            let kind = match end {
+                End::Selected { .. } => 0,
+                End::Busy(_) => 1,
+                End::Stopped(..) => 2,
+            };
+            self.locked[kind] += 1;
+        }
         match end {
             None => self.no_limit += 1,
             Some(End::Busy(polls)) => *self.busy.entry(polls).or_default() += 1,
@@ -59,6 +69,8 @@ impl BringUpCoverage {
         println!("  {addresses} addresses, {counts} block counts up to {most}");
         println!("busy: {}", polls(&self.busy));
         println!("no limit: {}", self.no_limit);
+        let [selected, busy, stopped] = self.locked;
+        println!("locked cards: selected x {selected}, busy x {busy}, stopped x {stopped}");
         println!("stopped {}", REASONS.map(|reason| format!("{:>7}", reason.name())).concat());
         for command in COMMANDS {
             let cells = REASONS.map(|reason| self.cell(command, reason));
@@ -79,10 +91,13 @@ impl BringUpCoverage {
 
     fn not_reached(&self) -> String {
         let all = COMMANDS.iter().flat_map(|&command| REASONS.map(|reason| (command, reason)));
-        let missing: Vec<String> = all
+        let mut missing: Vec<String> = all
             .filter(|end| can_end(*end) && !self.stopped.contains_key(end))
             .map(|(command, reason)| format!("{} {}", command.name(), reason.name()))
             .collect();
+        if self.locked.contains(&0) {
+            missing.push("an end of a locked card".into());
+        }
         if missing.is_empty() {
             "none".into()
         } else {

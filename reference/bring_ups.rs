@@ -18,6 +18,7 @@ struct Run {
     /// Lines of the card, newlines included.
     answers: Vec<Vec<u8>>,
     end: Option<End>,
+    is_locked: bool,
     at_once: bool,
 }
 
@@ -28,7 +29,7 @@ pub fn differ(seed: u64, runs: u64, program: &str) -> Result<BringUpCoverage, St
     let mut coverage = BringUpCoverage::default();
     for number in 1..=runs {
         let run = Run::new(&mut rng, &mut bench, &mut coverage);
-        coverage.end(run.end);
+        coverage.end(run.end, run.is_locked);
         coverage.fed(run.at_once);
         run.compare(program)
             .map_err(|report| format!("{report}\ndifference in bring-up {number} of seed {seed}"))?;
@@ -71,8 +72,14 @@ fn damage_plan(rng: &mut Rng) -> (Option<Command>, u64) {
 impl Run {
     fn new(rng: &mut Rng, bench: &mut Bench, coverage: &mut BringUpCoverage) -> Run {
         let words = words(rng);
-        let mut run =
-            Run { words, expected: Vec::new(), answers: Vec::new(), end: None, at_once: rng.chance(50) };
+        let mut run = Run {
+            words,
+            expected: Vec::new(),
+            answers: Vec::new(),
+            end: None,
+            is_locked: false,
+            at_once: rng.chance(50),
+        };
         match read_limit(&arguments(&run.words)) {
             Some(limit) => run.bring_up(rng, bench, coverage, limit),
             None => run.expected.push(format!("{USAGE}\n").into_bytes()),
@@ -85,6 +92,7 @@ impl Run {
 
     fn bring_up(&mut self, rng: &mut Rng, bench: &mut Bench, coverage: &mut BringUpCoverage, limit: u16) {
         let mut card = AnyCard::new(rng, bench, limit);
+        self.is_locked = card.is_locked();
         let (at, percent) = damage_plan(rng);
         let (mut host, mut step) = Host::begin(limit).expect("the limit was read");
         loop {

@@ -1,8 +1,9 @@
 //! The calls that the differential tester makes, their lines, and random ones of each kind.
 
-use crate::card::{crc16, crc7, Settings, BLOCK, PACKET};
+use crate::card::{crc16, crc7, Password, Settings, BLOCK, PACKET};
 use crate::chance::Rng;
 use crate::lines::{cid_of, push_hex, replay_settings, CONSOLE_BLOCKS, LONGEST_BLOCK};
+use crate::lock_calls::settings_password;
 
 #[derive(Clone, Copy, PartialEq)]
 pub enum Frame {
@@ -18,13 +19,13 @@ pub struct Power {
     pub polls: u8,
     pub cid: [u8; 15],
     pub flags: u8,
+    pub password: Password,
 }
 
 pub enum Call {
     Cmd([u8; 6], Frame),
-    Blk(Box<[u8; PACKET]>),
-    /// A block of another size.
-    Sized(Vec<u8>),
+    /// Of any size, which the card judges.
+    Blk(Vec<u8>),
     Take,
     Over,
     Power(Power),
@@ -43,13 +44,10 @@ impl Call {
     pub fn line(&self) -> Vec<u8> {
         match self {
             Call::Cmd(frame, _) => line(b"cmd", &[frame]),
-            Call::Blk(packet) => line(b"blk", &[&packet[..]]),
-            Call::Sized(packet) => line(b"blk", &[packet]),
+            Call::Blk(packet) => line(b"blk", &[packet]),
             Call::Take => b"take".to_vec(),
             Call::Over => b"over".to_vec(),
-            Call::Power(power) => {
-                line(b"power", &[&power.count.to_be_bytes(), &[power.polls], &power.cid, &[power.flags]])
-            }
+            Call::Power(power) => power.line(),
             Call::Mem(block) => line(b"mem", &[&block.to_be_bytes()]),
             Call::Unreadable(line) => line.clone(),
         }
@@ -63,9 +61,8 @@ impl Call {
             }
             Call::Cmd(_, Frame::Damaged) => "damaged".into(),
             Call::Cmd(_, Frame::Noise) => "noise".into(),
-            Call::Blk(packet) if is_good(packet) => "block".into(),
-            Call::Blk(_) => "block, bad check".into(),
-            Call::Sized(packet) => format!("block of {}", packet.len()),
+            Call::Blk(packet) if is_good(packet) => format!("block of {}", packet.len()),
+            Call::Blk(packet) => format!("bad block of {}", packet.len()),
             Call::Take => "take".into(),
             Call::Over => "over".into(),
             Call::Power(power) => format!("power {}", power.count),
@@ -83,12 +80,20 @@ impl Power {
             cid: cid_of(&self.cid),
             perm_write_protect: self.flags & 1 != 0,
             tmp_write_protect: self.flags & 2 != 0,
+            password: self.password,
         }
+    }
+
+    fn line(&self) -> Vec<u8> {
+        let (polls, flags, length) = ([self.polls], [self.flags], [self.password.length]);
+        let count = self.count.to_be_bytes();
+        line(b"power", &[&count, &polls, &self.cid, &flags, &length, &self.password.bytes])
     }
 
     pub fn random(rng: &mut Rng) -> Power {
         let flags = rng.weighted(&[(58, 0), (14, 1), (14, 2), (14, 3)]);
-        Power { count: block_count(rng), polls: start_polls(rng), cid: cid(rng), flags }
+        let password = settings_password(rng);
+        Power { count: block_count(rng), polls: start_polls(rng), cid: cid(rng), flags, password }
     }
 }
 
@@ -96,8 +101,11 @@ pub fn replay_blocks() -> u32 {
     replay_settings().block_count
 }
 
-pub fn is_good(packet: &[u8; PACKET]) -> bool {
-    crc16(&packet[..BLOCK]).to_be_bytes() == packet[BLOCK..]
+pub fn is_good(packet: &[u8]) -> bool {
+    let Some((payload, check)) = packet.split_last_chunk() else {
+        return false;
+    };
+    crc16(payload).to_be_bytes() == *check
 }
 
 fn line(word: &[u8], fields: &[&[u8]]) -> Vec<u8> {
@@ -121,7 +129,7 @@ pub fn is_readable(line: &[u8], is_console: bool) -> bool {
     match (word, sizes.as_slice()) {
         (b"take" | b"over", []) | (b"cmd", [12]) | (b"blk", [1028]) => true,
         (b"blk", [size]) => is_console && size % 2 == 0 && *size <= 2 * LONGEST_BLOCK,
-        (b"power", [8, 2, 30, 2]) => is_console && matches!(fields[3], b"00" | b"01" | b"02" | b"03"),
+        (b"power", [8, 2, 30, 2, 2, 32]) => is_console && matches!(fields[3], b"00" | b"01" | b"02" | b"03"),
         (b"mem", [8]) => is_console,
         _ => false,
     }
@@ -227,39 +235,48 @@ pub fn window(rng: &mut Rng) -> u32 {
 }
 
 pub fn block(rng: &mut Rng) -> Call {
-    let mut packet = Box::new([0; PACKET]);
+    let mut payload = vec![0; BLOCK];
     match rng.below(10) {
-        0 => packet[..BLOCK].fill(0xFF),
-        1 => packet[..BLOCK].fill(rng.byte()),
-        2 => packet[rng.below(512) as usize] = rng.byte(),
+        0 => payload.fill(0xFF),
+        1 => payload.fill(rng.byte()),
+        2 => payload[rng.below(512) as usize] = rng.byte(),
         3 => {}
-        _ => packet[..BLOCK].fill_with(|| rng.byte()),
+        _ => payload.fill_with(|| rng.byte()),
     }
-    let check = crc16(&packet[..BLOCK]);
-    packet[BLOCK..].copy_from_slice(&check.to_be_bytes());
+    packet(rng, payload)
+}
+
+/// The payload and its check, now and then damaged.
+pub fn packet(rng: &mut Rng, payload: Vec<u8>) -> Call {
+    let check = crc16(&payload);
+    let any = rng.byte();
+    let mut packet = payload;
+    packet.extend(match rng.below(100) {
+        0..1 => check.to_le_bytes(),
+        1..2 => (!check).to_be_bytes(),
+        2..3 => [any; 2],
+        _ => check.to_be_bytes(),
+    });
     match rng.below(100) {
-        0..5 => flip(rng, &mut packet[..], 1),
-        5..7 => flip(rng, &mut packet[..], 2),
-        7..8 => packet[BLOCK..].copy_from_slice(&check.to_le_bytes()),
-        8..9 => packet[BLOCK..].copy_from_slice(&(!check).to_be_bytes()),
-        9..10 => packet[BLOCK..].fill(rng.byte()),
+        0..5 => flip(rng, &mut packet, 1),
+        5..7 => flip(rng, &mut packet, 2),
         _ => {}
     }
     Call::Blk(packet)
 }
 
-/// A block of another size than a card takes: a good one cut or drawn out, or noise.
+/// A block of another size than that of memory: a good one cut or drawn out, or noise.
 pub fn sized_block(rng: &mut Rng) -> Call {
     let size = match rng.below(10) {
         0..8 => rng.pick(&[0, 1, 2, 3, 16, 256, 511, 512, 513, 515, 516, 517, 518, 519, 520]),
         _ => rng.below(LONGEST_BLOCK as u64 + 1) as usize,
     };
     let mut packet = match block(rng) {
-        Call::Blk(packet) if rng.chance(80) => packet.to_vec(),
+        Call::Blk(packet) if rng.chance(80) => packet,
         _ => (0..PACKET).map(|_| rng.byte()).collect(),
     };
     packet.resize(if size == PACKET { BLOCK } else { size }, rng.pick(&[0, 0xFF]));
-    Call::Sized(packet)
+    Call::Blk(packet)
 }
 
 pub fn noise(rng: &mut Rng) -> Call {
@@ -306,7 +323,7 @@ fn burst(rng: &mut Rng, frame: &mut [u8; 6], width: u64) {
 
 const STRANGE: &[u8] = b"abcdefgG \r\t-.+\"\\\0\x01\x7F\x80\xC3\xFF";
 
-const WRONG: [&[u8]; 40] = [
+const WRONG: [&[u8]; 43] = [
     b"cmd",
     b"blk",
     b"cmd\t",
@@ -345,8 +362,11 @@ const WRONG: [&[u8]; 40] = [
     b"power\t00000040\t00\t000000000000000000000000000000\t00",
     b"power\t00000040\t00\t000000000000000000000000000000\t00\t",
     b"power\t00000040\t00\t000000000000000000000000000000\t00\t00",
-    b"power\t00000040\t00\t\t00",
-    b"power\t40\t00\t000000000000000000000000000000\t00",
+    b"power\t00000040\t00\t000000000000000000000000000000\t00\t00\t",
+    b"power\t00000040\t00\t000000000000000000000000000000\t00\t00\t0000000000000000000000000000000",
+    b"power\t00000040\t00\t000000000000000000000000000000\t00\t00000000000000000000000000000000",
+    b"power\t00000040\t00\t\t00\t00\t00000000000000000000000000000000",
+    b"power\t40\t00\t000000000000000000000000000000\t00\t00\t00000000000000000000000000000000",
 ];
 
 /// Makes a line of a call into one that is not; now and then it still is one.

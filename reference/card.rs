@@ -1,12 +1,19 @@
 //! Reference SD memory card: standard capacity, SD bus mode, one data line.
 //!
-//! Written from paper 01, as a second opinion on the card proper. Names are those of the
-//! Physical Layer Specification; memory and output buffers belong to the caller.
+//! Written from papers 01 and 02, as a second opinion on the card proper. Names are those of the
+//! Physical Layer Specification; memory and output buffers belong to the caller. What a block of
+//! command 42 does is in lock.rs.
 
 #![allow(dead_code)]
 
+#[path = "lock.rs"]
+mod lock;
+
+pub use lock::{Password, LONGEST_PASSWORD};
+
 pub const BLOCK: usize = 512;
 pub const PACKET: usize = BLOCK + 2;
+const CHECK: usize = PACKET - BLOCK;
 const LONGEST_RESPONSE: usize = 17;
 
 const BLOCK_BYTES: u32 = BLOCK as u32;
@@ -19,6 +26,8 @@ pub const BLOCK_LEN_ERROR: u32 = 1 << 29;
 pub const ERASE_SEQ_ERROR: u32 = 1 << 28;
 pub const ERASE_PARAM: u32 = 1 << 27;
 pub const WP_VIOLATION: u32 = 1 << 26;
+pub const CARD_IS_LOCKED: u32 = 1 << 25;
+pub const LOCK_UNLOCK_FAILED: u32 = 1 << 24;
 pub const COM_CRC_ERROR: u32 = 1 << 23;
 pub const ILLEGAL_COMMAND: u32 = 1 << 22;
 pub const WP_ERASE_SKIP: u32 = 1 << 15;
@@ -33,6 +42,7 @@ const CLEAR_BY_READ: u32 = OUT_OF_RANGE
     | ERASE_SEQ_ERROR
     | ERASE_PARAM
     | WP_VIOLATION
+    | LOCK_UNLOCK_FAILED
     | WP_ERASE_SKIP
     | ERASE_RESET;
 const KEPT: u32 = CLEAR_BY_READ | COM_CRC_ERROR | ILLEGAL_COMMAND;
@@ -94,6 +104,7 @@ pub struct Settings {
     pub cid: Cid,
     pub perm_write_protect: bool,
     pub tmp_write_protect: bool,
+    pub password: Password,
 }
 
 /// An open transfer. Only memory blocks can be held, so only they say so.
@@ -106,11 +117,14 @@ pub enum Transfer {
     NumWrBlocks,
     Scr,
     Write { multiple: bool, address: u32, held: bool },
+    LockUnlock,
 }
 
 #[derive(Clone, Debug, PartialEq, Eq)]
 pub struct Card {
+    /// As they are now: command 42 changes the password, force erase the temporary protection as well.
     pub settings: Settings,
+    pub locked: bool,
     pub state: State,
     pub rca: u16,
     pub last_rca: u16,
@@ -149,6 +163,7 @@ pub enum Command {
     EraseWrBlkStart,
     EraseWrBlkEnd,
     Erase,
+    LockUnlock,
     AppCmd,
     SdStatus,
     SendNumWrBlocks,
@@ -182,6 +197,30 @@ impl Command {
         matches!(self, GoIdleState | SendStatus | EraseWrBlkStart | EraseWrBlkEnd | Erase)
     }
 
+    /// The column of a locked card. 55 is not in the standard's list, but no locked card would come up without.
+    fn runs_locked(self) -> bool {
+        use Command::*;
+        matches!(
+            self,
+            GoIdleState
+                | AllSendCid
+                | SendRelativeAddr
+                | SelectCard
+                | DeselectCard
+                | SendIfCond
+                | SendCsd
+                | SendCid
+                | StopTransmission
+                | SendStatus
+                | GoInactiveState
+                | SetBlocklen
+                | LockUnlock
+                | AppCmd
+                | SdSendOpCond
+                | SetClrCardDetect
+        )
+    }
+
     fn shows_app_cmd(self) -> bool {
         use Command::*;
         matches!(
@@ -207,11 +246,12 @@ impl Settings {
         })
     }
 
-    fn are_allowed(&self) -> bool {
+    pub fn are_allowed(&self) -> bool {
         (4..=65_536).contains(&self.block_count)
             && self.c_size().is_some()
             && self.start_polls <= 15
             && self.cid.mdt <= 0xFFF
+            && self.password.is_allowed()
     }
 
     fn fit(&self, memory: &[u8]) -> bool {
@@ -244,7 +284,7 @@ impl Settings {
             (8, 0x26),   // TAAC
             (8, 0),      // NSAC
             (8, 0x32),   // TRAN_SPEED
-            (12, 0x175), // CCC
+            (12, 0x1F5), // CCC
             (4, 9),      // READ_BL_LEN
             (1, 1),      // READ_BL_PARTIAL
             (1, 0),      // WRITE_BLK_MISALIGN
@@ -286,8 +326,10 @@ impl Card {
         if !settings.are_allowed() {
             return Err(Refusal::Setting);
         }
+        let settings = Settings { password: settings.password.trimmed(), ..settings };
         Ok(Card {
             settings,
+            locked: settings.password.is_set(),
             state: State::Idle,
             rca: 0,
             last_rca: 0,
@@ -319,37 +361,33 @@ impl Card {
         Ok(self.receive(frame, memory, out))
     }
 
-    /// Refusals 1, 2, 3, 5.
+    /// Refusals 2, 1, 3, 5.
     pub fn block_in(&mut self, packet: &[u8], memory: &mut [u8]) -> Result<CrcStatus, Refusal> {
-        let packet: &[u8; PACKET] = packet.try_into().map_err(|_| Refusal::Size)?;
-        self.check_record(memory)?;
-        let Transfer::Write { multiple, address, held } = self.transfer else {
-            return Err(Refusal::State);
-        };
-        if held {
-            return Ok(CrcStatus::Silence);
+        self.check_sound()?;
+        if packet.len() != self.packet_size() {
+            return Err(Refusal::Size);
         }
-        let (payload, check) = packet.split_at(BLOCK);
-        if check != crc16(payload).to_be_bytes() {
-            if multiple {
+        self.check_memory(memory)?;
+        let (payload, check) = packet.split_at(packet.len() - CHECK);
+        let is_good = check == crc16(payload).to_be_bytes();
+        Ok(match self.transfer {
+            Transfer::Write { held: true, .. } => CrcStatus::Silence,
+            Transfer::Write { multiple: true, .. } if !is_good => {
                 self.hold(0);
-            } else {
-                self.leave_transfer(State::Tran);
+                CrcStatus::Rejected
             }
-            return Ok(CrcStatus::Rejected);
-        }
-        if let Err(error) = self.check_range(address).and_then(|()| self.check_protection(address)) {
-            self.hold(error);
-            return Ok(CrcStatus::Silence);
-        }
-        memory[address as usize..][..BLOCK].copy_from_slice(payload);
-        self.num_wr_blocks += 1;
-        if multiple {
-            self.transfer = Transfer::Write { multiple, address: address + BLOCK_BYTES, held };
-        } else {
-            self.leave_transfer(State::Prg);
-        }
-        Ok(CrcStatus::Accepted)
+            Transfer::Write { .. } | Transfer::LockUnlock if !is_good => {
+                self.leave_transfer(State::Tran);
+                CrcStatus::Rejected
+            }
+            Transfer::Write { multiple, address, .. } => self.store(multiple, address, payload, memory),
+            Transfer::LockUnlock => {
+                self.lock_unlock(payload, memory);
+                self.leave_transfer(State::Prg);
+                CrcStatus::Accepted
+            }
+            _ => return Err(Refusal::State),
+        })
     }
 
     /// Gives the length of the packet written to `out`; 0 is silence.
@@ -360,7 +398,7 @@ impl Card {
             return Err(Refusal::Output);
         }
         match self.transfer {
-            Transfer::None | Transfer::Write { .. } => Err(Refusal::State),
+            Transfer::None | Transfer::Write { .. } | Transfer::LockUnlock => Err(Refusal::State),
             Transfer::Read { held: true, .. } => Ok(0),
             Transfer::Read { multiple, address, held } => {
                 if let Err(error) = self.check_read(address) {
@@ -399,18 +437,30 @@ impl Card {
 // Refusals 2 and 3.
 impl Card {
     fn check_record(&self, memory: &[u8]) -> Result<(), Refusal> {
-        if !self.is_sound() {
-            return Err(Refusal::Unsound);
+        self.check_sound()?;
+        self.check_memory(memory)
+    }
+
+    fn check_sound(&self) -> Result<(), Refusal> {
+        if self.is_sound() {
+            Ok(())
+        } else {
+            Err(Refusal::Unsound)
         }
-        if !self.settings.fit(memory) {
-            return Err(Refusal::Memory);
+    }
+
+    fn check_memory(&self, memory: &[u8]) -> Result<(), Refusal> {
+        if self.settings.fit(memory) {
+            Ok(())
+        } else {
+            Err(Refusal::Memory)
         }
-        Ok(())
     }
 
     pub fn is_sound(&self) -> bool {
         // The settings come first: the other conditions reckon with the block count.
         self.settings.are_allowed()
+            && !(self.locked && !self.settings.password.is_set())
             && self.polls_left <= self.settings.start_polls
             && (1..=BLOCK_BYTES).contains(&self.block_len)
             && self.transfer_is_sound()
@@ -436,6 +486,7 @@ impl Card {
                     && address % BLOCK_BYTES == 0
                     && self.num_wr_blocks <= address / BLOCK_BYTES
             }
+            Transfer::LockUnlock => self.state == State::Rcv,
         }
     }
 
@@ -478,7 +529,7 @@ impl Card {
         self.run(command, index, argument, memory, out)
     }
 
-    /// 01's transition table, read from the left: the command that the frame is in
+    /// The transition table, read from the left: the command that the frame is in
     /// this state, or none if it is not allowed here.
     fn command(&self, index: u8, argument: u32) -> Option<Command> {
         use {Command::*, State::*};
@@ -512,10 +563,11 @@ impl Card {
             32 => (EraseWrBlkStart, state == Tran),
             33 => (EraseWrBlkEnd, state == Tran),
             38 => (Erase, state == Tran),
+            42 => (LockUnlock, state == Tran),
             55 => (AppCmd, matches!(state, Idle | Stby | Tran | Data | Rcv | Prg | Dis)),
             _ => return None,
         };
-        allowed.then_some(command)
+        (allowed && (!self.locked || command.runs_locked())).then_some(command)
     }
 
     fn run(
@@ -534,8 +586,8 @@ impl Card {
             self.status |= error;
             Response::R1
         });
-        let status =
-            self.status | shown_state(at_reception) | if command.shows_app_cmd() { APP_CMD } else { 0 };
+        let app_cmd = if command.shows_app_cmd() { APP_CMD } else { 0 };
+        let status = self.status | shown_state(at_reception) | self.shown_lock() | app_cmd;
         self.status &= !(COM_CRC_ERROR | ILLEGAL_COMMAND);
         if let Response::R1 = response {
             self.status &= !CLEAR_BY_READ;
@@ -617,11 +669,11 @@ impl Card {
             }
             WriteBlock => {
                 self.check_write(argument)?;
-                self.receive_data(Transfer::Write { multiple: false, address: argument, held: false })
+                self.receive_write(Transfer::Write { multiple: false, address: argument, held: false })
             }
             WriteMultipleBlock => {
                 self.check_write(argument)?;
-                self.receive_data(Transfer::Write { multiple: true, address: argument, held: false })
+                self.receive_write(Transfer::Write { multiple: true, address: argument, held: false })
             }
             SetWriteProt => {
                 self.check_range(argument)?;
@@ -658,6 +710,7 @@ impl Card {
                 self.erase(memory)?;
                 self.program()
             }
+            LockUnlock => self.receive_data(Transfer::LockUnlock),
             SdStatus => self.send_data(Transfer::SdStatus),
             SendNumWrBlocks => self.send_data(Transfer::NumWrBlocks),
             SendScr => self.send_data(Transfer::Scr),
@@ -672,11 +725,19 @@ impl Card {
         self.settings.block_count * BLOCK_BYTES
     }
 
+    fn shown_lock(&self) -> u32 {
+        if self.locked {
+            CARD_IS_LOCKED
+        } else {
+            0
+        }
+    }
+
     fn is_own(&self, argument: u32) -> bool {
         argument >> 16 == u32::from(self.rca)
     }
 
-    /// Everything but the settings, the last published RCA and the protection marks.
+    /// Everything but the settings, the lock, the last published RCA and the protection marks.
     fn go_idle(&mut self) {
         self.state = State::Idle;
         self.rca = 0;
@@ -749,11 +810,39 @@ impl Card {
         Response::R1
     }
 
+    /// Of memory: A22 counts anew.
+    fn receive_write(&mut self, transfer: Transfer) -> Response {
+        self.num_wr_blocks = 0;
+        self.receive_data(transfer)
+    }
+
     fn receive_data(&mut self, transfer: Transfer) -> Response {
         self.transfer = transfer;
-        self.num_wr_blocks = 0;
         self.state = State::Rcv;
         Response::R1
+    }
+
+    /// Bytes of the block that is due, its check included; also where none is.
+    pub fn packet_size(&self) -> usize {
+        match self.transfer {
+            Transfer::LockUnlock => self.block_len as usize + CHECK,
+            _ => PACKET,
+        }
+    }
+
+    fn store(&mut self, multiple: bool, address: u32, payload: &[u8], memory: &mut [u8]) -> CrcStatus {
+        if let Err(error) = self.check_range(address).and_then(|()| self.check_protection(address)) {
+            self.hold(error);
+            return CrcStatus::Silence;
+        }
+        memory[address as usize..][..BLOCK].copy_from_slice(payload);
+        self.num_wr_blocks += 1;
+        if multiple {
+            self.transfer = Transfer::Write { multiple, address: address + BLOCK_BYTES, held: false };
+        } else {
+            self.leave_transfer(State::Prg);
+        }
+        CrcStatus::Accepted
     }
 
     fn program(&mut self) -> Response {

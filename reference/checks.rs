@@ -1,31 +1,25 @@
 //! Unit checks: `rustc --test main.rs`. Vectors are the samples of the standard and computed ones.
 
 use crate::card::*;
-use crate::lines::Bench;
+use crate::lines::{replay_settings, Bench};
 
-fn settings(block_count: u32) -> Settings {
-    Settings {
-        block_count,
-        start_polls: 0,
-        cid: Cid::default(),
-        perm_write_protect: false,
-        tmp_write_protect: false,
-    }
+pub fn settings(block_count: u32) -> Settings {
+    Settings { block_count, ..replay_settings() }
 }
 
 /// A card with its memory and a host that speaks in numbers.
-struct Slot {
-    card: Card,
-    memory: Vec<u8>,
+pub struct Slot {
+    pub card: Card,
+    pub memory: Vec<u8>,
 }
 
 impl Slot {
-    fn new(settings: Settings) -> Slot {
+    pub fn new(settings: Settings) -> Slot {
         let memory = vec![0; settings.block_count as usize * BLOCK];
         Slot { card: Card::power_up(settings, &memory).unwrap(), memory }
     }
 
-    fn command(&mut self, index: u8, argument: u32) -> String {
+    pub fn command(&mut self, index: u8, argument: u32) -> String {
         let mut frame = [0x40 | index, 0, 0, 0, 0, 0];
         frame[1..5].copy_from_slice(&argument.to_be_bytes());
         frame[5] = crc7(&frame[..5]) << 1 | 1;
@@ -35,21 +29,21 @@ impl Slot {
         hex(&out[..length])
     }
 
-    fn take(&mut self) -> String {
+    pub fn take(&mut self) -> String {
         let mut out = [0xEE; PACKET];
         let length = self.card.take(&self.memory, &mut out).unwrap();
         assert!(out[length..].iter().all(|&byte| byte == 0xEE), "written behind the answer");
         hex(&out[..length])
     }
 
-    fn block(&mut self, byte: u8) -> CrcStatus {
+    pub fn block(&mut self, byte: u8) -> CrcStatus {
         let mut packet = [byte; PACKET];
         let check = crc16(&packet[..BLOCK]).to_be_bytes();
         packet[BLOCK..].copy_from_slice(&check);
         self.card.block_in(&packet, &mut self.memory).unwrap()
     }
 
-    fn select(mut self) -> Slot {
+    pub fn select(mut self) -> Slot {
         self.command(55, 0);
         while !self.command(41, 0x00FF_8000).starts_with("3F80") {
             self.command(55, 0);
@@ -62,11 +56,11 @@ impl Slot {
     }
 }
 
-fn hex(bytes: &[u8]) -> String {
+pub fn hex(bytes: &[u8]) -> String {
     bytes.iter().map(|byte| format!("{byte:02X}")).collect()
 }
 
-fn bytes(digits: &str) -> Vec<u8> {
+pub fn bytes(digits: &str) -> Vec<u8> {
     digits
         .as_bytes()
         .chunks(2)
@@ -82,7 +76,8 @@ fn crc7_samples() {
         5200000000E1 58000000006F 590000000003 5C00000000CD 5D00000000A1 5E0000000015 5E00004000CF 6000000000DF \
         61000002009F 6600000000A5 6A0000000051 7300000000C7 560000000043 57000000002F 370000012083 0300010500A5 \
         070000070075 0D000009003F 0D00000E005D 118000090051 1140000900F5 180400090045 0C00000B007F 0C00000D000B \
-        0026003217598003C0004F80824000BF 0026003217598003C0004F80824020DB 0026003217598003C0004F808240108D";
+        0026003217598003C0004F80824000BF 0026003217598003C0004F80824020DB 0026003217598003C0004F808240108D \
+        002600321F598003C0004F8082400053 002600321F5983FFC003CF8082400093";
     for sample in samples.split_whitespace() {
         let sample = bytes(sample);
         let (check, content) = sample.split_last().unwrap();
@@ -125,16 +120,16 @@ fn csd_and_cid() {
         slot.command(7, 0);
         slot.command(9, 0x1_0000)
     };
-    assert_eq!(csd(settings(64)), "3F0026003217598003C0004F80824000BF");
-    assert_eq!(csd(settings(4)), "3F002600321759800000004F8082400005");
-    assert_eq!(csd(settings(65_536)), "3F00260032175983FFC0014F80824000AD");
+    assert_eq!(csd(settings(64)), "3F002600321F598003C0004F8082400053");
+    assert_eq!(csd(settings(4)), "3F002600321F59800000004F80824000E9");
+    assert_eq!(csd(settings(65_536)), "3F002600321F5983FFC0014F8082400041");
     assert_eq!(
         csd(Settings { perm_write_protect: true, ..settings(64) }),
-        "3F0026003217598003C0004F80824020DB"
+        "3F002600321F598003C0004F8082402037"
     );
     assert_eq!(
         csd(Settings { tmp_write_protect: true, ..settings(64) }),
-        "3F0026003217598003C0004F808240108D"
+        "3F002600321F598003C0004F8082401061"
     );
 
     let cid = Cid { mid: 0x12, oid: 0x3456, pnm: *b"ABCDE", prv: 0x62, psn: 0x789A_BCDE, mdt: 0x014 };
@@ -207,8 +202,10 @@ fn refusals_come_in_order() {
 
     let block =
         |card: &Card, length: usize, memory: &mut [u8]| card.clone().block_in(&vec![0; length], memory);
-    assert_eq!(block(&unsound, 513, &mut small), Err(Refusal::Size));
+    assert_eq!(block(&unsound, 513, &mut small), Err(Refusal::Unsound));
     assert_eq!(block(&unsound, 514, &mut small), Err(Refusal::Unsound));
+    assert_eq!(block(&sound, 513, &mut small), Err(Refusal::Size));
+    assert_eq!(block(&sound, 515, &mut memory), Err(Refusal::Size));
     assert_eq!(block(&sound, 514, &mut small), Err(Refusal::Memory));
     assert_eq!(block(&sound, 514, &mut memory), Err(Refusal::State));
 
@@ -265,7 +262,7 @@ fn unsound_records() {
     assert!(judge(&|card| card.num_wr_blocks = 64));
     assert!(!judge(&|card| card.num_wr_blocks = 65));
     for bit in 0..32 {
-        let kept = matches!(bit, 26..=31 | 22 | 23 | 15 | 13);
+        let kept = matches!(bit, 26..=31 | 22..=24 | 15 | 13);
         assert_eq!(judge(&|card| card.status = 1 << bit), kept, "bit {bit}");
     }
     assert!(judge(&|card| card.erase_start = Some(capacity - 1)));
@@ -426,8 +423,7 @@ fn status_poll_during_an_erase() {
     assert_eq!((marks(&slot.card), slot.card.state), ((None, None), State::Data));
 }
 
-fn replay(input: &[u8]) -> Vec<u8> {
-    let mut bench = Bench::replay();
+fn answers(mut bench: Bench, input: &[u8]) -> Vec<u8> {
     let lines = input.strip_suffix(b"\n").unwrap_or(input).split(|&byte| byte == b'\n');
     lines.flat_map(|line| bench.answer(line).to_vec()).collect()
 }
@@ -471,13 +467,15 @@ fn without_crc_error(answer: &str) -> String {
 #[test]
 fn transcripts() {
     macro_rules! check {
-        ($($name:literal)*) => {$(
-            let input = include_bytes!(concat!("../crates/replay_transcripts/data/", $name, ".in"));
-            let output = include_bytes!(concat!("../crates/replay_transcripts/data/", $name, ".out"));
-            assert!(replay(input) == output, $name);
+        ($bench:ident $folder:literal $($name:literal)*) => {$(
+            let input = include_bytes!(concat!("../crates/", $folder, "/data/", $name, ".in"));
+            let output = include_bytes!(concat!("../crates/", $folder, "/data/", $name, ".out"));
+            assert!(answers(Bench::$bench(), input) == output, $name);
         )*};
     }
-    check!("nine" "bring-up" "all-states" "status-bits" "holds" "erase" "multiple" "refusals" "damaged" "damaged-without");
+    check!(replay "replay_transcripts" "nine" "bring-up" "all-states" "status-bits" "holds" "erase" "multiple");
+    check!(replay "replay_transcripts" "lock" "refusals" "damaged" "damaged-without");
+    check!(console "console_transcripts" "power" "protected" "lock" "locked" "memory" "sizes");
 }
 
 /// 01's own text, not a file made by this card.

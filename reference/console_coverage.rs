@@ -44,7 +44,7 @@ impl ConsoleCoverage {
                 count(&mut self.unreadable, "mem, no such block")
             }
             (Call::Mem(_), _) => self.mem_answered += 1,
-            (Call::Sized(packet), _) => {
+            (Call::Blk(packet), _) if packet.len() != step.before.packet_size() => {
                 self.blocks[usize::from(step.before.state != State::Rcv)] += 1;
                 self.block_sizes.insert(packet.len());
             }

@@ -1,7 +1,7 @@
 //! What the differential tester's host does beside replay's lines when it talks to a console.
 
-use crate::calls::{sized_block, Call, Power};
-use crate::card::{Card, Refusal, State};
+use crate::calls::{Call, Power};
+use crate::card::{Card, Refusal, State, Transfer};
 use crate::chance::Rng;
 use crate::host::Host;
 use crate::lines::{lent, CONSOLE_BLOCKS};
@@ -47,9 +47,13 @@ impl Host {
         if rng.below(1000) < power_ups {
             return Some(Call::Power(self.power(rng)));
         }
-        let other_sizes = if self.card.state == State::Rcv { 35 } else { 4 };
+        let other_sizes = match self.card.transfer {
+            Transfer::LockUnlock => 80,
+            Transfer::Write { .. } => 35,
+            _ => 4,
+        };
         if rng.below(1000) < other_sizes {
-            return Some(sized_block(rng));
+            return Some(self.sized_block(rng));
         }
         (rng.below(1000) < 20).then(|| Call::Mem(self.shown_block(rng)))
     }
@@ -73,7 +77,7 @@ impl Host {
     /// A line to be spoiled, if it is not wrong already.
     pub fn console_line(&mut self, rng: &mut Rng) -> Vec<u8> {
         match rng.below(8) {
-            0 => sized_block(rng).line(),
+            0 => self.sized_block(rng).line(),
             1 | 2 => Call::Mem(self.shown_block(rng)).line(),
             3 | 4 => {
                 // one bit too many, or any flags

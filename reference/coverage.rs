@@ -5,6 +5,8 @@ use crate::card::{self, Card, CrcStatus, State, Transfer};
 use crate::console_coverage::ConsoleCoverage;
 use crate::erase_coverage::{is_pending, EraseCoverage};
 use crate::host::{Step, APPLICATION};
+use crate::lock_coverage::LockCoverage;
+use crate::locked_coverage::LockedCoverage;
 use std::collections::BTreeMap;
 
 pub const STATES: [State; 10] = [
@@ -20,7 +22,7 @@ pub const STATES: [State; 10] = [
     State::Ina,
 ];
 
-const SETTABLE: [u32; 16] = [31, 30, 29, 28, 27, 26, 23, 22, 15, 13, 12, 11, 10, 9, 8, 5];
+const SETTABLE: [u32; 18] = [31, 30, 29, 28, 27, 26, 25, 24, 23, 22, 15, 13, 12, 11, 10, 9, 8, 5];
 
 #[derive(Default)]
 pub struct Coverage {
@@ -35,6 +37,8 @@ pub struct Coverage {
     answers: BTreeMap<String, u64>,
     holds: BTreeMap<&'static str, u64>,
     erase: EraseCoverage,
+    lock: LockCoverage,
+    locked: LockedCoverage,
     console: Option<ConsoleCoverage>,
 }
 
@@ -63,6 +67,8 @@ impl Coverage {
             *self.holds.entry(hold).or_default() += 1;
         }
         self.erase.call(call, step);
+        self.lock.call(call, step);
+        self.locked.call(call, step);
         if let Some(console) = &mut self.console {
             console.call(call, step);
         }
@@ -100,6 +106,8 @@ impl Coverage {
             println!("{count:9}  {hold}");
         }
         self.erase.print();
+        self.lock.print(self.console.is_some());
+        self.locked.print(self.console.is_some());
         if let Some(console) = &self.console {
             console.print();
         }
@@ -118,7 +126,7 @@ impl Coverage {
             print!("{:14}", row.name());
             for (state, count) in STATES.into_iter().zip(counts) {
                 print!("{count:9}");
-                if count == 0 && row.can_meet(state) {
+                if count == 0 && row.can_meet(state, self.console.is_some()) {
                     missing.push(format!("{} in {}", row.name(), state_name(state)));
                 }
             }
@@ -182,6 +190,9 @@ fn hold(call: &Call, step: &Step) -> Option<&'static str> {
     let is_held = |card: &Card| {
         matches!(card.transfer, Transfer::Read { held: true, .. } | Transfer::Write { held: true, .. })
     };
+    if matches!(call, Call::Blk(packet) if packet.len() != step.before.packet_size()) {
+        return None;
+    }
     let new_bits = step.after.status & !step.before.status;
     Some(match (call, is_held(&step.before), is_held(&step.after)) {
         (Call::Take, true, _) => "take while held",
@@ -211,9 +222,10 @@ fn all_rows(is_console: bool) -> Vec<Row> {
         }
     }
     rows.extend(APPLICATION.map(Row::Application));
-    rows.extend(["damaged", "noise", "block", "bad block", "take", "over", "unreadable"].map(Row::Other));
+    let others = ["damaged", "noise", "block", "bad block", "other size", "take", "over", "unreadable"];
+    rows.extend(others.map(Row::Other));
     if is_console {
-        rows.extend(["other size", "power", "power refused", "mem"].map(Row::Other));
+        rows.extend(["power", "power refused", "mem"].map(Row::Other));
     }
     rows
 }
@@ -232,9 +244,9 @@ impl Row {
             }
             Call::Cmd(_, Frame::Damaged) => Row::Other("damaged"),
             Call::Cmd(_, Frame::Noise) => Row::Other("noise"),
+            Call::Blk(packet) if packet.len() != step.before.packet_size() => Row::Other("other size"),
             Call::Blk(packet) if is_good(packet) => Row::Other("block"),
             Call::Blk(_) => Row::Other("bad block"),
-            Call::Sized(_) => Row::Other("other size"),
             Call::Take => Row::Other("take"),
             Call::Over => Row::Other("over"),
             Call::Power(_) if step.power == Some(Ok(())) => Row::Other("power"),
@@ -252,8 +264,13 @@ impl Row {
         }
     }
 
-    /// The application mark never stands in ready, ident and ina.
-    fn can_meet(&self, state: State) -> bool {
-        !(matches!(self, Row::Application(_)) && matches!(state, State::Ready | State::Ident | State::Ina))
+    /// The application mark never stands in ready, ident and ina. Replay's blocks have 514 bytes, which only 42
+    /// may find wrong.
+    fn can_meet(&self, state: State, is_console: bool) -> bool {
+        match self {
+            Row::Application(_) => !matches!(state, State::Ready | State::Ident | State::Ina),
+            Row::Other("other size") => is_console || state == State::Rcv,
+            _ => true,
+        }
     }
 }

@@ -21,7 +21,12 @@ mod erase_coverage;
 mod host;
 #[allow(dead_code)]
 mod lines;
+mod lock_calls;
+mod lock_coverage;
+mod lock_host;
+mod locked_coverage;
 mod programs;
+mod tally;
 
 use calls::Call;
 use card::State;

@@ -8,7 +8,11 @@
 //! bad 9 5A             the same packet with bit 9 flipped
 //! take                 also: over
 //! 66 * take            sixty-six times
+//! data 6 0104A1B2      these bytes, filled up with zeros to 6, and their check: a block of command 42
+//! bad 9 6 0104A1B2     the same packet with bit 9 flipped
 //! power 64 2 0 1       block count and start polls in decimal, CID as 30 digits or 0, flags
+//! power 64 2 0 1 A1B2  the same with a password of these bytes
+//! power 64 2 0 1 17 A1 the same with this length of the password, whatever its bytes
 //! mem 7                block 7 of the console's memory, in decimal
 //! sized 16 5A          16 bytes 5Ah, no check
 //! cut 513 5A           512 bytes 5Ah and their check, cut to 513 bytes or filled up with zeros
@@ -25,7 +29,8 @@ mod card;
 mod lines;
 
 use answers::Answers;
-use card::{crc16, crc7, BLOCK, PACKET};
+use card::{crc16, crc7, BLOCK, LONGEST_PASSWORD, PACKET};
+use lines::{push_hex, up_to};
 use std::io::{self, Write};
 
 fn main() -> Result<(), String> {
@@ -77,7 +82,15 @@ fn replay_line(item: &str) -> Option<Vec<u8>> {
         ["take" | "over"] => Some(item.into()),
         ["block", byte] => Some(line("blk", &packet(byte)?)),
         ["bad", bits, byte] => Some(line("blk", &flip(packet(byte)?, bits)?)),
-        ["power", count, polls, cid, flags] => power([count, polls, cid, flags]),
+        ["data", size, digits] => Some(line("blk", &data(size, digits)?)),
+        ["bad", bits, size, digits] => Some(line("blk", &flip(data(size, digits)?, bits)?)),
+        ["power", count, polls, cid, flags] => power([count, polls, cid, flags], "0", ""),
+        ["power", count, polls, cid, flags, password] => {
+            power([count, polls, cid, flags], &(password.len() / 2).to_string(), password)
+        }
+        ["power", count, polls, cid, flags, length, password] => {
+            power([count, polls, cid, flags], length, password)
+        }
         ["mem", block] => Some(line("mem", &block.parse::<u32>().ok()?.to_be_bytes())),
         ["sized", size, byte] => {
             Some(line("blk", &vec![u8::from_str_radix(byte, 16).ok()?; size.parse().ok()?]))
@@ -103,12 +116,16 @@ fn frame(index: &str, argument: &str) -> Option<[u8; 6]> {
     Some(frame)
 }
 
-fn power([count, polls, cid, flags]: [&str; 4]) -> Option<Vec<u8>> {
+fn power([count, polls, cid, flags]: [&str; 4], length: &str, password: &str) -> Option<Vec<u8>> {
     let count: u32 = count.parse().ok()?;
     let polls: u8 = polls.parse().ok()?;
     let cid = u128::from_str_radix(cid, 16).ok().filter(|_| cid == "0" || cid.len() == 30)?;
     let flags = u8::from_str_radix(flags, 16).ok()?;
-    Some(format!("power\t{count:08X}\t{polls:02X}\t{cid:030X}\t{flags:02X}").into_bytes())
+    let length: u8 = length.parse().ok()?;
+    let mut line =
+        format!("power\t{count:08X}\t{polls:02X}\t{cid:030X}\t{flags:02X}\t{length:02X}\t").into_bytes();
+    push_hex(&mut line, &filled(password, LONGEST_PASSWORD)?);
+    Some(line)
 }
 
 fn packet(byte: &str) -> Option<[u8; PACKET]> {
@@ -118,10 +135,24 @@ fn packet(byte: &str) -> Option<[u8; PACKET]> {
     Some(packet)
 }
 
-fn flip<const N: usize>(mut bytes: [u8; N], bits: &str) -> Option<[u8; N]> {
+/// A block of command 42.
+fn data(size: &str, digits: &str) -> Option<Vec<u8>> {
+    let mut bytes = filled(digits, size.parse().ok()?)?;
+    bytes.extend(crc16(&bytes).to_be_bytes());
+    Some(bytes)
+}
+
+/// The bytes of the digits and zeros behind them.
+fn filled(digits: &str, size: usize) -> Option<Vec<u8>> {
+    let mut bytes = up_to(digits.as_bytes(), size).ok()?;
+    bytes.resize(size, 0);
+    Some(bytes)
+}
+
+fn flip<T: AsMut<[u8]>>(mut bytes: T, bits: &str) -> Option<T> {
     for bit in bits.split(',') {
         let bit: usize = bit.parse().ok()?;
-        *bytes.get_mut(bit / 8)? ^= 0x80 >> (bit % 8);
+        *bytes.as_mut().get_mut(bit / 8)? ^= 0x80 >> (bit % 8);
     }
     Some(bytes)
 }

@@ -1,7 +1,7 @@
 //! The differential tester's host: random calls that go by the state which the card has reached.
 
 use crate::calls::{block, block_len, damage, is_readable, noise, spoil, window, Call};
-use crate::card::{Card, CrcStatus, Refusal, State, Transfer, BLOCK, PACKET};
+use crate::card::{Card, CrcStatus, Password, Refusal, State, Transfer, BLOCK, PACKET};
 use crate::chance::Rng;
 use crate::lines::{lent, lent_mut, replay_settings, CONSOLE_BLOCKS};
 use std::collections::VecDeque;
@@ -30,6 +30,8 @@ pub struct Host {
     /// Blocks written or erased, and the latest of them.
     pub touched: Vec<bool>,
     pub recent: VecDeque<u32>,
+    /// The password before the present one.
+    pub former: Password,
 }
 
 /// What a call did to the model.
@@ -61,6 +63,7 @@ impl Host {
             largest: settings.block_count,
             touched: vec![false; blocks as usize],
             recent: VecDeque::new(),
+            former: Password::default(),
         }
     }
 
@@ -74,7 +77,7 @@ impl Host {
             Call::Cmd(frame, _) => {
                 let _ = self.card.command_frame(frame, memory, &mut self.out);
             }
-            Call::Blk(packet) => crc_status = self.card.block_in(&packet[..], memory).ok(),
+            Call::Blk(packet) => crc_status = self.card.block_in(packet, memory).ok(),
             Call::Take => {
                 let _ = self.card.take(memory, &mut self.out);
             }
@@ -82,7 +85,10 @@ impl Host {
                 let _ = self.card.busy_over(memory);
             }
             Call::Power(settings) => power = Some(self.power_up(settings)),
-            Call::Sized(_) | Call::Mem(_) | Call::Unreadable(_) => {}
+            Call::Mem(_) | Call::Unreadable(_) => {}
+        }
+        if before.settings.password.is_set() && before.settings.password != self.card.settings.password {
+            self.former = before.settings.password;
         }
         let step = Step { before, after: self.card.clone(), crc_status, power };
         self.note_touched(&step);
@@ -237,7 +243,10 @@ impl Host {
     }
 
     fn in_tran(&mut self, rng: &mut Rng) -> Call {
-        if self.card.block_len != BLOCK as u32 && rng.chance(12) {
+        if rng.chance(if self.card.locked { 55 } else { 7 }) {
+            return self.lock_unlock(rng);
+        }
+        if self.card.block_len != BLOCK as u32 && rng.chance(25) {
             return Call::command(16, BLOCK as u32);
         }
         let (end, erase, status) = match (self.card.erase_start, self.card.erase_end) {
@@ -313,10 +322,11 @@ impl Host {
         let blk = match self.card.transfer {
             Transfer::Write { held: true, .. } => 40,
             Transfer::Write { multiple: true, .. } => 90,
+            Transfer::LockUnlock => 85,
             _ => 75,
         };
         if rng.chance(blk) {
-            return block(rng);
+            return self.block(rng);
         }
         self.command(rng, &[(250, 12), (120, 13), (100, 55), (10, 7), (6, 0), (4, 15)])
     }

@@ -1,6 +1,6 @@
 //! The lines of the replay program and of the console, on a card and its memory.
 
-use crate::card::{Card, Cid, CrcStatus, Refusal, Settings, BLOCK, PACKET};
+use crate::card::{Card, Cid, CrcStatus, Password, Refusal, Settings, BLOCK, LONGEST_PASSWORD, PACKET};
 use std::io::Write;
 
 /// Blocks of the console's memory.
@@ -55,11 +55,12 @@ impl Bench {
             [b"blk", digits] => self.block(&sized(digits, PACKET)?),
             [b"take"] => self.take(),
             [b"over"] => self.over(),
-            [b"power", count, polls, cid, flags] if self.is_console => {
+            [b"power", count, polls, cid, flags, length, password] if self.is_console => {
                 let settings = Settings {
                     block_count: number(count, 4)?,
                     start_polls: number(polls, 1)? as u8,
                     cid: cid_of(&sized(cid, 15)?),
+                    password: password_of(number(length, 1)? as u8, &sized(password, LONGEST_PASSWORD)?),
                     ..protection(number(flags, 1)?)?
                 };
                 self.power(settings)
@@ -133,6 +134,7 @@ pub fn replay_settings() -> Settings {
         cid: Cid::default(),
         perm_write_protect: false,
         tmp_write_protect: false,
+        password: Password::default(),
     }
 }
 
@@ -159,6 +161,11 @@ pub fn cid_of(register: &[u8]) -> Cid {
         psn: field(9, 13),
         mdt: (field(13, 15) & 0x0FFF) as u16,
     }
+}
+
+/// As it stands on the line: the card judges the length, and what is behind it.
+fn password_of(length: u8, field: &[u8]) -> Password {
+    Password { bytes: std::array::from_fn(|i| field[i]), length }
 }
 
 /// Settings that say no more than which protection there is.

@@ -8,6 +8,8 @@ mod card;
 #[cfg(test)]
 mod checks;
 mod lines;
+#[cfg(test)]
+mod lock_checks;
 
 use lines::{Bench, LONGEST_LINE};
 use std::cell::RefCell;

@@ -10,7 +10,7 @@ use Rattle.card.specs.declared.Source.{Source}
 use Rattle.card.specs.declared.Source.the-variants.{WriteProtect, WrittenBlocks}
 use Rattle.card.specs.declared.Core.{Core}
 use Rattle.card.specs.declared.command.Command.{Command}
-use Rattle.card.specs.declared.command.Command.the-variants.{GoIdleState, AllSendCid, SendRelativeAddr, SelectCard, DeselectCard, SendIfCond, SendCsd, SendCid, StopTransmission, SendStatus, AppCmd, GoInactiveState, SetBlocklen, ReadSingleBlock, ReadMultipleBlock, SendWriteProt, WriteBlock, WriteMultipleBlock, SetWriteProt, ClrWriteProt, Erase, EraseWrBlkStart, EraseWrBlkEnd, SdStatus, SendNumWrBlocks, SendScr, SetWrBlkEraseCount, SetClrCardDetect, SdSendOpCond, Unknown}
+use Rattle.card.specs.declared.command.Command.the-variants.{GoIdleState, AllSendCid, SendRelativeAddr, SelectCard, DeselectCard, SendIfCond, SendCsd, SendCid, StopTransmission, SendStatus, AppCmd, GoInactiveState, SetBlocklen, ReadSingleBlock, ReadMultipleBlock, SendWriteProt, WriteBlock, WriteMultipleBlock, LockUnlock, SetWriteProt, ClrWriteProt, Erase, EraseWrBlkStart, EraseWrBlkEnd, SdStatus, SendNumWrBlocks, SendScr, SetWrBlkEraseCount, SetClrCardDetect, SdSendOpCond, Unknown}
 use Rattle.card.specs.declared.done.Response.the-variants.{R1}
 use Rattle.card.specs.Settings.{BLOCK, capacity}
 use Rattle.card.specs.Table.{row, legal}
@@ -21,7 +21,7 @@ use Rattle.card.proofs.Facts.{Sturdy}
 use Rattle.card.proofs.Changes.{resize, reset-sturdy}
 use Rattle.card.proofs.Moves.{all, keepsRca, from}
 use Rattle.card.proofs.Started.{Right, right, checked-right, address-in}
-use Rattle.card.proofs.Opened.{moved-right, data-right, read-right, rcv-right, marks-right}
+use Rattle.card.proofs.Opened.{moved-right, data-right, read-right, rcv-right, lock-right, marks-right}
 use Rattle.card.proofs.Identified.{publish-right, poll-right}
 use Rattle.card.proofs.Erased.{start-right, end-right, erase-right}
 
@@ -57,6 +57,7 @@ run-right SendWriteProt c x a f p =
     (λ e. data-right c f SendWriteProt p (WriteProtect a) refl refl (let h : a < top = address-in top a [] e in omega arith))
 run-right WriteBlock c x a f p = rcv-right c f WriteBlock p false a refl refl
 run-right WriteMultipleBlock c x a f p = rcv-right c f WriteMultipleBlock p true a refl refl
+run-right LockUnlock c x a f p = lock-right c f LockUnlock p refl refl
 run-right SetWriteProt c x a f p = marks-right c f SetWriteProt p true a refl
 run-right ClrWriteProt c x a f p = marks-right c f ClrWriteProt p false a refl
 run-right Erase c x a f p = erase-right c f p

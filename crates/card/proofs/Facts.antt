@@ -3,7 +3,7 @@ use mathlib.Core.Path.{_≡_, refl}
 use mathlib.Core.Bool.{Bool, true, false}
 use mathlib.Core.List.{List, [], _∷_}
 use Prim.Native.Nat.{ℕ, zero, suc, _-_, _≤_}
-use borrow.Author.Tests.{ltb-false, leb-true, le-ltb, le-leb}
+use borrow.Author.Tests.{eq-eqb, ltb-false, leb-true, le-ltb, le-leb}
 use lib.Dec.{leb}
 use lib.ListN.{getD}
 use Rattle.reg_csd.specs.Csd.{csdValues}
@@ -57,6 +57,11 @@ Sturdy c = Parts (c .settings) (c .csd) (c .bus .state) (c .bus .rca) (c .bus .p
 
 abbrev pub Facts : Core → Type 0
 Facts c = Sturdy c × (badApp (number (c .bus .state)) (c .bus .app) ≡ false)
+
+pub equal-refl : (xs : List ℕ) → equal xs xs ≡ true
+unfolding equal
+equal-refl [] = refl
+equal-refl (x ∷ xs) = rw (eq-eqb x x refl, equal-refl xs)
 
 -- ---- the list of tests is those facts
 

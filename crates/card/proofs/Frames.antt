@@ -1,6 +1,6 @@
 -- A frame keeps a record sound: the frame rules, and the application mark that a command leaves.
 use mathlib.Core.Path.{_≡_, refl, sym, ap, subst, _∙_}
-use mathlib.Core.Bool.{Bool, true, false, _&&_, _||_}
+use mathlib.Core.Bool.{Bool, true, false, _&&_, _||_, and-eq-true-iff}
 use mathlib.Core.List.{List, []}
 use Prim.Native.Nat.{ℕ}
 use lib.Dec.{eqb}
@@ -13,7 +13,7 @@ use Rattle.card.specs.declared.State.the-variants.{Idle, Ready, Ident, S
 use Rattle.card.specs.declared.Kept.{Kept}
 use Rattle.card.specs.declared.Core.{Core}
 use Rattle.card.specs.declared.command.Command.{Command}
-use Rattle.card.specs.declared.command.Command.the-variants.{GoIdleState, AllSendCid, SendRelativeAddr, SelectCard, DeselectCard, SendIfCond, SendCsd, SendCid, StopTransmission, SendStatus, AppCmd, GoInactiveState, SetBlocklen, ReadSingleBlock, ReadMultipleBlock, SendWriteProt, WriteBlock, WriteMultipleBlock, SetWriteProt, ClrWriteProt, Erase, EraseWrBlkStart, EraseWrBlkEnd, SdStatus, SendNumWrBlocks, SendScr, SetWrBlkEraseCount, SetClrCardDetect, SdSendOpCond, Unknown}
+use Rattle.card.specs.declared.command.Command.the-variants.{GoIdleState, AllSendCid, SendRelativeAddr, SelectCard, DeselectCard, SendIfCond, SendCsd, SendCid, StopTransmission, SendStatus, AppCmd, GoInactiveState, SetBlocklen, ReadSingleBlock, ReadMultipleBlock, SendWriteProt, WriteBlock, WriteMultipleBlock, LockUnlock, SetWriteProt, ClrWriteProt, Erase, EraseWrBlkStart, EraseWrBlkEnd, SdStatus, SendNumWrBlocks, SendScr, SetWrBlkEraseCount, SetClrCardDetect, SdSendOpCond, Unknown}
 use Rattle.card.specs.declared.done.Response as Response
 use Rattle.card.specs.declared.done.Response.{Response}
 use Rattle.card.specs.declared.done.Response.the-variants.{R1, R6, Cid, Csd, R3, R7}
@@ -24,7 +24,7 @@ use Rattle.card.specs.declared.done.Flag.{Flag}
 use Rattle.card.specs.Settings.{addressOf}
 use Rattle.card.specs.Record.{noErase, withKept, withApp}
 use Rattle.card.specs.State.{number, ina}
-use Rattle.card.specs.Table.{row, commandOf, own, misses, setsApp, has, legal}
+use Rattle.card.specs.Table.{row, commandOf, own, misses, setsApp, has, legal, accepts}
 use Rattle.card.specs.Execute.{pending, settled, runAt, run}
 use Rattle.card.specs.Frame.{Message, Turn, judge, cleared, finish, showSd, byCheck, receive}
 use Rattle.card.specs.Soundness.{badApp}
@@ -39,13 +39,13 @@ use Rattle.card.proofs.Started.{Right}
 -- what a call comes to
 pub record Lasting (c : Core) (t : Turn) : Type 0 where
   pub facts : Facts (t .core)
-  pub settings : t .core .settings ≡ c .settings
+  pub blocks : t .core .settings .blocks ≡ c .settings .blocks
   pub inside : Inside (c .settings) (t .effect) (t .payload)
 
 -- memory and marks stay
-pub lasting : {c d : Core} {f : Flag} {m : Message} → Facts d → d .settings ≡ c .settings
+pub lasting : {c d : Core} {f : Flag} {m : Message} → Facts d → d .settings .blocks ≡ c .settings .blocks
     → Lasting c (record { core = d; flag = f; message = m; effect = Nothing; payload = [] })
-lasting f e = record { facts = f; settings = e; inside = tt }
+lasting f e = record { facts = f; blocks = e; inside = tt }
 
 -- ---- the application mark
 
@@ -85,6 +85,7 @@ app-after ReadMultipleBlock c x a p = refl
 app-after SendWriteProt c x a p = refl
 app-after WriteBlock c x a p = refl
 app-after WriteMultipleBlock c x a p = refl
+app-after LockUnlock c x a p = refl
 app-after SetWriteProt c x a p = refl
 app-after ClrWriteProt c x a p = refl
 app-after Erase c x a p = refl
@@ -126,7 +127,7 @@ finish-lasting k n c d f app =
     let e : cleared (d .response) (d .core) ≡ withKept (d .core) _ = cleared-kept (d .response) (d .core) .1 in
     record {
       facts = subst (λ (x : Core). Facts (withApp x b)) (sym e) (f .sturdy, app);
-      settings = ap (λ (x : Core). x .settings) e ∙ f .settings;
+      blocks = ap (λ (x : Core). x .settings .blocks) e ∙ ap (λ (s : Settings). s .blocks) (f .settings);
       inside = f .inside;
     }
 
@@ -138,8 +139,10 @@ judge-lasting c index argument f =
     let s : Alike c d = settled-alike k c (f .0) in
     let P : Judged → Type 0 = λ j. Lasting c (showSd c j) in
     let off : Facts (withApp c false) = (f .0, refl) in
-    cond-elim P (legal k (c .bus .state))
-    (λ permitted. cond-elim P (misses (row k .rca) (own (c .bus) argument)) (λ t. lasting off refl)
+    cond-elim P (accepts k (c .locked) && legal k (c .bus .state))
+    (λ p.
+    let permitted : legal k (c .bus .state) ≡ true = and-eq-true-iff (accepts k (c .locked)) (legal k (c .bus .state)) .0 p .1 in
+    cond-elim P (misses (row k .rca) (own (c .bus) argument)) (λ t. lasting off refl)
     (λ t.
     let here : legal k (d .bus .state) ≡ true = rw (s .state) permitted in
     let a = addressOf (d .settings) argument in

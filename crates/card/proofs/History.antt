@@ -2,12 +2,11 @@
 use mathlib.Core.Path.{_≡_, refl}
 use mathlib.Core.Bool.{false}
 use mathlib.Core.List.{List, [], _∷_}
-use Prim.Native.Nat.{ℕ}
-use native.Mathlib.Omega.{arith}
+use Prim.Native.Nat.{ℕ, _+_, _≤_}
 use Rattle.wire_frame.specs.Command.{frameCheck}
 use Rattle.wire_frame.specs.Damage.{DamagedFrame}
 use Rattle.wire_frame.specs.declared.command.FrameCheck.the-variants.{Good}
-use Rattle.wire_packet.specs.Packet.{packetRight}
+use Rattle.wire_packet.specs.Packet.{PAYLOAD, CHECK, packetRight}
 use Rattle.wire_packet.specs.Damage.{DamagedBlock}
 use Rattle.wire_frame.proofs.Detection.{frame-caught}
 use Rattle.wire_packet.proofs.Detection.{block-caught}
@@ -19,11 +18,11 @@ use Rattle.card.proofs.Damaged.{copy-unheard, block-not-stored}
 
 module _
     (caught : (f : List ℕ) → DamagedFrame f → (index argument : ℕ) → frameCheck f ≡ Good index argument → ⊥)
-    (wrong : (w : World) (s : List ℕ) → DamagedBlock (blockSize (w .card .core)) s → packetRight s ≡ false)
+    (wrong : (size : ℕ) → size ≤ PAYLOAD + CHECK → (s : List ℕ) → DamagedBlock size s → packetRight s ≡ false)
   where
     unharmed : (w : World) (c : Call) → Unharmed w c
-    unharmed w (blockIn s) = λ d. block-not-stored w s (wrong w s d)
-    unharmed w (powerUp s) = tt
+    unharmed w (blockIn s) = λ d. block-not-stored w s (λ short. wrong (blockSize (w .card .core)) short s d)
+    unharmed w (powerUp s p) = tt
     unharmed w (commandFrame frame out) = tt
     unharmed w (takeBlock out) = tt
     unharmed w busyOver = tt
@@ -43,8 +42,8 @@ module _
         (x, agree keeps h (next a (commandFrame frame out)) b (x .world) (keeps a (commandFrame frame out) s))
 
     pub from : StartsSound → KeepsSound → Demand3
-    from starts keeps w st h = agree keeps h w w (record { core = refl; memory = refl }) (starts w st)
+    from starts keeps w st h = agree keeps h w w (record { core = refl; password = refl; memory = refl }) (starts w st)
 
 -- with the error-detection law of the two checks, and with what every call keeps: nothing is assumed
 pub demand3 : Demand3
-demand3 = from (frame-caught .never-good) (λ w s. block-caught (blockSize (w .card .core)) (omega arith) s) starts-sound keeps-sound
+demand3 = from (frame-caught .never-good) block-caught starts-sound keeps-sound

@@ -14,6 +14,8 @@ pub mod Erased
 pub mod Commands
 pub mod Frames
 pub mod Transfers
+pub mod Locked
+pub mod Passwords
 pub mod Sound
 pub mod Words
 pub mod Mask
@@ -25,3 +27,6 @@ pub mod History
 pub mod Registers
 pub mod Unread
 pub mod SendStatus
+pub mod Unseen
+pub mod Shut
+pub mod MemoryUnseen

@@ -1,7 +1,7 @@
 -- The messages of the card: in an R1 that a frame gets COM_CRC_ERROR is free, and its first byte says that it is one; blocks and their
 -- answers carry no status.
 use mathlib.Core.Path.{_≡_, refl}
-use mathlib.Core.Bool.{Bool, true, false, cond, not}
+use mathlib.Core.Bool.{Bool, true, false, cond, not, _&&_}
 use mathlib.Core.List.{List, _∷_}
 use mathlib.Core.Option.{some}
 use Prim.Native.Nat.{ℕ, _/_, _%_, _^_}
@@ -14,13 +14,13 @@ use Rattle.wire_frame.specs.declared.command.FrameCheck.the-variants.{Good, Siz
 use Rattle.wire_packet.specs.Packet.{packetRight}
 use Rattle.card.specs.declared.Source.{Source}
 use Rattle.card.specs.declared.Source.the-variants.{Blocks, WriteProtect, SdStatus as SdStatusBlock, WrittenBlocks, Scr}
-use Rattle.card.specs.declared.Sink.the-variants.{Single, Multiple}
+use Rattle.card.specs.declared.Sink.the-variants.{Single, Multiple, LockUnlock as LockBlock}
 use Rattle.card.specs.declared.State.{State}
 use Rattle.card.specs.declared.Open.{Open}
 use Rattle.card.specs.declared.Open.the-variants.{Nothing, Read, Write, Busy}
 use Rattle.card.specs.declared.Core.{Core}
 use Rattle.card.specs.declared.command.Command.{Command}
-use Rattle.card.specs.declared.command.Command.the-variants.{GoIdleState, AllSendCid, SendRelativeAddr, SelectCard, DeselectCard, SendIfCond, SendCsd, SendCid, StopTransmission, SendStatus, AppCmd, GoInactiveState, SetBlocklen, ReadSingleBlock, ReadMultipleBlock, SendWriteProt, WriteBlock, WriteMultipleBlock, SetWriteProt, ClrWriteProt, Erase, EraseWrBlkStart, EraseWrBlkEnd, SdStatus, SendNumWrBlocks, SendScr, SetWrBlkEraseCount, SetClrCardDetect, SdSendOpCond, Unknown}
+use Rattle.card.specs.declared.command.Command.the-variants.{GoIdleState, AllSendCid, SendRelativeAddr, SelectCard, DeselectCard, SendIfCond, SendCsd, SendCid, StopTransmission, SendStatus, AppCmd, GoInactiveState, SetBlocklen, ReadSingleBlock, ReadMultipleBlock, SendWriteProt, WriteBlock, WriteMultipleBlock, LockUnlock, SetWriteProt, ClrWriteProt, Erase, EraseWrBlkStart, EraseWrBlkEnd, SdStatus, SendNumWrBlocks, SendScr, SetWrBlkEraseCount, SetClrCardDetect, SdSendOpCond, Unknown}
 use Rattle.card.specs.declared.done.Response as Response
 use Rattle.card.specs.declared.done.Response.{Response}
 use Rattle.card.specs.declared.done.Response.the-variants.{R1, R6, Cid, Csd, R3, R7}
@@ -30,10 +30,10 @@ use Rattle.card.specs.Settings.{capacity, addressOf}
 use Rattle.card.specs.State.{number as numberOf, ina}
 use Rattle.card.specs.Protect.{whole, guarded}
 use Rattle.card.specs.Checks.{outside, crossing}
-use Rattle.card.specs.Table.{row, commandOf, own, misses, legal}
+use Rattle.card.specs.Table.{row, commandOf, own, misses, legal, accepts}
 use Rattle.card.specs.Execute.{settled, runAt, run}
 use Rattle.card.specs.Frame.{Message, silence, r1, r6, plain, block, token, finished, Turn, judge, messageOf, finish, showSd, byCheck, receive}
-use Rattle.card.specs.Data.{takeSource, takeFrom, writeInto, blockInto, overFrom}
+use Rattle.card.specs.Data.{takeSource, takeFrom, writeInto, lockInto, blockInto, overFrom}
 use Rattle.card.specs.History.{carrier}
 use Rattle.card.proofs.Words.{Free, status-free}
 use Rattle.card.proofs.Choices.{cond-either}
@@ -76,13 +76,18 @@ write-bare multiple held a c packet =
     (cond-either Bare (not (packetRight packet)) tt
     (cond-either Bare (outside (capacity (c .settings)) a) tt (cond-either Bare (guarded (whole (c .settings)) (c .marks) a) tt tt)))
 
-pub block-bare : (o : Open) (c : Core) (packet : List ℕ) → Bare (blockInto o c packet)
+lock-bare : (success : Bool) (c : Core) (packet : List ℕ) → Bare (lockInto success c packet)
+unfolding lockInto
+lock-bare success c packet = cond-either Bare (not (packetRight packet)) tt (cond-either Bare success tt tt)
+
+pub block-bare : (o : Open) (success : Bool) (c : Core) (packet : List ℕ) → Bare (blockInto o success c packet)
 unfolding blockInto
-block-bare Nothing c packet = tt
-block-bare (Read s) c packet = tt
-block-bare (Write (Single a held)) c packet = write-bare false held a c packet
-block-bare (Write (Multiple a held)) c packet = write-bare true held a c packet
-block-bare (Busy s) c packet = tt
+block-bare Nothing success c packet = tt
+block-bare (Read s) success c packet = tt
+block-bare (Write (Single a held)) success c packet = write-bare false held a c packet
+block-bare (Write (Multiple a held)) success c packet = write-bare true held a c packet
+block-bare (Write LockBlock) success c packet = lock-bare success c packet
+block-bare (Busy s) success c packet = tt
 
 pub over-bare : (o : Open) (c : Core) → Bare (overFrom o c)
 unfolding overFrom
@@ -137,6 +142,7 @@ r1-told ReadMultipleBlock c x a e = refl
 r1-told SendWriteProt c x a e = refl
 r1-told WriteBlock c x a e = refl
 r1-told WriteMultipleBlock c x a e = refl
+r1-told LockUnlock c x a e = refl
 r1-told SetWriteProt c x a e = refl
 r1-told ClrWriteProt c x a e = refl
 r1-told Erase c x a e = refl
@@ -153,7 +159,7 @@ r1-told Unknown c x a e = refl
 response-clean : (k : Command) (s : State) (d : Done) (r : Response) → (r ≡ R1 → Told k) → Clean (messageOf k (numberOf s) d r)
 unfolding messageOf
 response-clean k s d Response.Nothing h = tt
-response-clean k s d R1 h = (status-free _ s _, h refl)
+response-clean k s d R1 h = (status-free _ _ s _, h refl)
 response-clean k s d R6 h = tt
 response-clean k s d Cid h = tt
 response-clean k s d Csd h = tt
@@ -166,7 +172,7 @@ judge-clean c index argument =
     let k = commandOf (c .bus) index argument in
     let d = settled k c in
     let P : Judged → Type 0 = λ j. Says (showSd c j) in
-    cond-either P (legal k (c .bus .state))
+    cond-either P (accepts k (c .locked) && legal k (c .bus .state))
     (cond-either P (misses (row k .rca) (own (c .bus) argument)) tt
     (response-clean k (c .bus .state) (run k d argument) (run k d argument .response) (r1-told k d argument (addressOf (d .settings) argument))))
     tt

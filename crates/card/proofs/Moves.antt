@@ -14,6 +14,7 @@ use Rattle.card.specs.declared.command.Command.{Command}
 use Rattle.card.specs.State.{idle, ready, ident, stby, tran, «data», rcv, prg, dis, ina, number, arrive, openOf, transferAddress}
 use Rattle.card.specs.Table.{Move, moves, has, lead, legal, after}
 use Rattle.card.specs.Soundness.{writtenMost, offWrite, badRca}
+use Rattle.card.specs.Locked.{shut}
 use Rattle.card.proofs.Choices.{cond-elim}
 use Rattle.card.proofs.Facts.{Transfer}
 
@@ -65,23 +66,24 @@ pub record Free (o : Open) : Type 0 where
   pub address : transferAddress o ≡ 0
   pub write : offWrite o ≡ false
   pub most : (n : ℕ) → writtenMost o n ≡ n
+  pub closed : shut o ≡ true
 
-free : {o : Open} → transferAddress o ≡ 0 → offWrite o ≡ false → ((n : ℕ) → writtenMost o n ≡ n) → Free o
-free a w m = record { address = a; write = w; most = m }
+free : {o : Open} → transferAddress o ≡ 0 → offWrite o ≡ false → ((n : ℕ) → writtenMost o n ≡ n) → shut o ≡ true → Free o
+free a w m c = record { address = a; write = w; most = m; closed = c }
 
 module _ (P : State → Type 0) (n : ℕ) (t : State) where
   pub arrive-elim : P t → ((s : State) → number s ≡ n → Free (openOf s) → P s) → P Ina → P (arrive n t)
   unfolding arrive
   arrive-elim held plain last =
-      cond-elim P (eqb n idle) (here Idle idle refl (free refl refl (λ m. refl)))
-      (λ e. cond-elim P (eqb n ready) (here Ready ready refl (free refl refl (λ m. refl)))
-      (λ e. cond-elim P (eqb n ident) (here Ident ident refl (free refl refl (λ m. refl)))
-      (λ e. cond-elim P (eqb n stby) (here Stby stby refl (free refl refl (λ m. refl)))
-      (λ e. cond-elim P (eqb n tran) (here Tran tran refl (free refl refl (λ m. refl)))
+      cond-elim P (eqb n idle) (here Idle idle refl (free refl refl (λ m. refl) refl))
+      (λ e. cond-elim P (eqb n ready) (here Ready ready refl (free refl refl (λ m. refl) refl))
+      (λ e. cond-elim P (eqb n ident) (here Ident ident refl (free refl refl (λ m. refl) refl))
+      (λ e. cond-elim P (eqb n stby) (here Stby stby refl (free refl refl (λ m. refl) refl))
+      (λ e. cond-elim P (eqb n tran) (here Tran tran refl (free refl refl (λ m. refl) refl))
       (λ e. cond-elim P (eqb n «data») (λ q. held)
       (λ e. cond-elim P (eqb n rcv) (λ q. held)
-      (λ e. cond-elim P (eqb n prg) (here Prg prg refl (free refl refl (λ m. refl)))
-      (λ e. cond-elim P (eqb n dis) (here Dis dis refl (free refl refl (λ m. refl))) (λ q. last)))))))))
+      (λ e. cond-elim P (eqb n prg) (here Prg prg refl (free refl refl (λ m. refl) refl))
+      (λ e. cond-elim P (eqb n dis) (here Dis dis refl (free refl refl (λ m. refl) refl)) (λ q. last)))))))))
     where
       here : (s : State) (k : ℕ) → number s ≡ k → Free (openOf s) → eqb n k ≡ true → P s
       here s k e f q = let m : n ≡ k = eqb-true n k q in plain s (omega arith) f
@@ -95,7 +97,7 @@ free-transfer {s} {n} o f h =
 pub arrive-transfer : {s : Settings} {n : ℕ} (k : ℕ) (t : State) → Transfer s (openOf t) n → Transfer s (openOf (arrive k t)) n
 arrive-transfer {s} {n} k t h =
     arrive-elim (λ (x : State). Transfer s (openOf x) n) k t h (λ x e f. free-transfer (openOf x) f (h .count))
-    (free-transfer (openOf Ina) (free refl refl (λ m. refl)) (h .count))
+    (free-transfer (openOf Ina) (free refl refl (λ m. refl) refl) (h .count))
 
 arrive-rca : (k : ℕ) (t : State) (rca : ℕ) → badRca k rca ≡ false → badRca (number t) rca ≡ false → badRca (number (arrive k t)) rca ≡ false
 unfolding badRca

@@ -8,7 +8,7 @@ use borrow.Author.Tests.{eqb-true, leb-false, not-false}
 use lib.Dec.{eqb}
 use Rattle.card.specs.declared.Source.{Source}
 use Rattle.card.specs.declared.Source.the-variants.{Blocks}
-use Rattle.card.specs.declared.Sink.{Sink}
+use Rattle.card.specs.declared.Sink.the-variants.{LockUnlock}
 use Rattle.card.specs.declared.State.{State}
 use Rattle.card.specs.declared.State.the-variants.{Data, Rcv}
 use Rattle.card.specs.declared.Core.{Core}
@@ -17,7 +17,7 @@ use Rattle.card.specs.declared.done.Response.{Response}
 use Rattle.card.specs.declared.done.Response.the-variants.{R1}
 use Rattle.card.specs.Settings.{BLOCK, capacity}
 use Rattle.card.specs.Record.{withWritten}
-use Rattle.card.specs.State.{number, tran, openOf, sourceAddress, sinkAddress, sink}
+use Rattle.card.specs.State.{number, tran, openOf, sourceAddress, sink}
 use Rattle.card.specs.Status.{BLOCK-LEN-ERROR, OUT-OF-RANGE, ADDRESS-ERROR, WP-VIOLATION}
 use Rattle.card.specs.Table.{moves, lead, legal, after}
 use Rattle.card.specs.Protect.{groupOf, whole, guarded}
@@ -26,15 +26,10 @@ use Rattle.card.specs.Execute.{ran, moved, opening, checked, readBlocks,
 use Rattle.card.specs.Soundness.{badRca}
 use Rattle.card.proofs.Choices.{cond-elim}
 use Rattle.card.proofs.Facts.{Transfer, Sturdy}
-use Rattle.card.proofs.Changes.{stand, data-transfer, rcv-transfer}
+use Rattle.card.proofs.Changes.{stand, data-transfer, rcv-transfer, lock-transfer}
 use Rattle.card.proofs.Marks.{group-in}
 use Rattle.card.proofs.Moves.{all, keepsRca, from, arrive-transfer, after-rca, came-from}
 use Rattle.card.proofs.Started.{Right, right, passed, checked-right, address-in}
-
--- 24 and 25 differ in the kind of their transfer alone
-pub sink-address : (multiple held : Bool) (a : ℕ) → sinkAddress (sink multiple a held) ≡ a
-sink-address true held a = refl
-sink-address false held a = refl
 
 module _ (c : Core) (f : Sturdy c) where
   module _ (cmd : Command) (permitted : legal cmd (c .bus .state) ≡ true) where
@@ -88,11 +83,14 @@ module _ (c : Core) (f : Sturdy c) where
         let r = passed (offBlock a sets ADDRESS-ERROR) last (q .1) in
         let on : a % BLOCK ≡ 0 = eqb-true (a % BLOCK) 0 (not-false (eqb (a % BLOCK) 0) (r .0)) in
         let below : a < top = leb-false top a (q .0) in
-        let to : Sink = sink multiple a false in
-        let at : sinkAddress to ≡ a = sink-address multiple false a in
         right
-        (opened-sturdy (Rcv to) 0 k (rcv-transfer (c .settings) to 0 (omega arith) (rw at on) (omega arith)) (found-rca t))
+        (opened-sturdy (Rcv (sink multiple a false)) 0 k (rcv-transfer (c .settings) multiple false a 0 (omega arith) on (omega arith)) (found-rca t))
         refl refl)
+
+    pub lock-right : all keepsRca (moves cmd) ≡ true → all (from tran) (moves cmd) ≡ true → Right c (ran (opening cmd c (Rcv LockUnlock)) R1)
+    unfolding badRca
+    lock-right k t =
+        right (opened-sturdy (Rcv LockUnlock) (c .written) k (lock-transfer (c .settings) (c .written) (f .transfer .count)) (found-rca t)) refl refl
 
     pub marks-right : (value : Bool) (a : ℕ) → all keepsRca (moves cmd) ≡ true → Right c (setMark cmd c value a)
     marks-right value a k =

@@ -35,15 +35,15 @@ use Rattle.card.specs.declared.Core.{Core}
 use Rattle.card.specs.declared.command.Command.{Command}
 use Rattle.card.specs.declared.command.Command.the-variants.{AllSendCid, SendCsd, SendCid, Unknown}
 use Rattle.card.specs.Settings.{LEAST, MOST, POLLS, isPair, pairSize, pairMult, allowed, csdOf, cidBytes, csdBytes}
-use Rattle.card.specs.Soundness.{equal}
+use Rattle.card.specs.Soundness.{equal, unsound}
 use Rattle.card.specs.State.{number, ina}
 use Rattle.card.specs.Status.{ERASE-RESET}
-use Rattle.card.specs.Table.{row, commands, fits as fitsRow, find, commandOf, own, misses, has, legal}
+use Rattle.card.specs.Table.{row, commands, fits as fitsRow, find, commandOf, own, misses, has, legal, accepts}
 use Rattle.card.specs.Execute.{raise, dropErase, pending, settled, runAt, run}
 use Rattle.card.specs.Frame.{plain, judge, messageOf, showSd, byCheck, receive}
 use Rattle.card.specs.Step.{World, commandFrame, wire, replyOf, show, applies, frameRefusal, framed, step}
 use Rattle.card.specs.Registers.{readRegister, Reads, ReadsRegisters}
-use Rattle.card.proofs.Choices.{cond-either, spared}
+use Rattle.card.proofs.Choices.{cond-either, neither, spared}
 use Rattle.card.proofs.Facts.{Fixed, facts-sound}
 
 -- ---- a register of sixteen bytes with its check, in any format of that shape
@@ -128,7 +128,9 @@ csdR2 c = r2Bytes (csdBytes (c .csd))
 module _ (w : World) (frame out : List ℕ) (passed : frameRefusal w frame out ≡ none) where
   fixed : Fixed (w .card .core .settings) (w .card .core .csd)
   unfolding applies
-  fixed = facts-sound (w .card .core) (spared 2 (3 ∷ 4 ∷ []) _ (spared 1 (2 ∷ 3 ∷ 4 ∷ []) _ passed .1) .0) .0 .fixed
+  fixed =
+      let two = neither (unsound (w .card .core)) _ (spared 2 (3 ∷ 4 ∷ []) _ (spared 1 (2 ∷ 3 ∷ 4 ∷ []) _ passed .1) .0) in
+      facts-sound (w .card .core) (two .0) .0 .fixed
 
   cid-sent : receive (w .card .core) frame .message ≡ plain (cidR2 (w .card .core))
       → Reads cid (cidValues (w .card .core .settings .cid)) (step w (commandFrame frame out))
@@ -148,6 +150,7 @@ module _
     (bare : find commands false (row k .index) (own (c .bus) argument) Unknown ≡ k)
     (marked : find commands true (row k .index) (own (c .bus) argument) k ≡ k)
     (awake : eqb (number s) ina ≡ false)
+    (accepted : accepts k (c .locked) ≡ true)
     (permitted : legal k s ≡ true)
     (says : (d : Core) → messageOf k (number s) (run k d argument) (run k d argument .response) ≡ plain (bytes d))
     (kept : bytes (dropErase (raise c ERASE-RESET)) ≡ bytes c)
@@ -165,22 +168,22 @@ module _
     answers : c .bus .state ≡ s → misses (row k .rca) (own (c .bus) argument) ≡ false → (frame : List ℕ)
         → frameCheck frame ≡ Good (row k .index) argument → receive c frame .message ≡ plain (bytes c)
     unfolding receive byCheck judge showSd
-    answers state mine frame check = simp (state, awake, check, found, permitted, mine, says, settles)
+    answers state mine frame check = simp (state, awake, check, found, accepted, permitted, mine, says, settles)
 
 -- ---- the claim
 
 pub reads-registers : ReadsRegisters
-unfolding row fitsRow find has legal runAt messageOf
+unfolding row fitsRow find has legal accepts runAt messageOf
 reads-registers w argument frame out =
     let c = w .card .core in
     record {
       allSendCid =
           λ state h. cid-sent w frame out (h .passed)
-          (answers c argument AllSendCid Ready cidR2 refl refl refl refl (λ d. refl) refl state refl frame (h .check));
+          (answers c argument AllSendCid Ready cidR2 refl refl refl refl refl (λ d. refl) refl state refl frame (h .check));
       sendCid =
           λ state mine h. cid-sent w frame out (h .passed)
-          (answers c argument SendCid Stby cidR2 refl refl refl refl (λ d. refl) refl state (ap not mine) frame (h .check));
+          (answers c argument SendCid Stby cidR2 refl refl refl refl refl (λ d. refl) refl state (ap not mine) frame (h .check));
       sendCsd =
           λ state mine h. csd-sent w frame out (h .passed)
-          (answers c argument SendCsd Stby csdR2 refl refl refl refl (λ d. refl) refl state (ap not mine) frame (h .check));
+          (answers c argument SendCsd Stby csdR2 refl refl refl refl refl (λ d. refl) refl state (ap not mine) frame (h .check));
     }

@@ -11,6 +11,7 @@ use Rattle.wire_response.specs.Response as Wire
 use Rattle.card.specs.declared.State.{State}
 use Rattle.card.specs.declared.State.the-variants.{Idle, Ready, Ident, Stby, Tran, Data, Rcv, Prg, Dis, Ina}
 use Rattle.card.specs.declared.Kept.{Kept}
+use Rattle.card.specs.declared.Password.{Password}
 use Rattle.card.specs.declared.Line.{Line}
 use Rattle.card.specs.declared.command.Command.the-variants.{SendStatus}
 use Rattle.card.specs.declared.done.Response.the-variants.{R1}
@@ -18,13 +19,13 @@ use Rattle.card.specs.Record.{withKept, withApp, withMarks}
 use Rattle.card.specs.Protect.{whole}
 use Rattle.card.specs.State.{number, ina}
 use Rattle.card.specs.Status.{noBits}
-use Rattle.card.specs.Table.{row, fits, find, commandOf, own, has, legal}
+use Rattle.card.specs.Table.{row, fits, find, commandOf, own, has, legal, accepts}
 use Rattle.card.specs.Execute.{ran, settled, runAt}
 use Rattle.card.specs.Effects.{stored, affected}
 use Rattle.card.specs.Frame.{Message, silence, r1, r6, plain, block, token, finished, Turn, judge, messageOf, cleared, finish, showSd, byCheck, receive}
-use Rattle.card.specs.Data.{takeFrom, blockInto, overFrom}
+use Rattle.card.specs.Data.{takeFrom, blockInto, passwordInto, overFrom}
 use Rattle.card.specs.Soundness.{unsoundTests, unsound}
-use Rattle.card.specs.Step.{Call, powerUp, commandFrame, blockIn, takeBlock, busyOver, World, world, Result, over, sent, line, wire, replyOf, after, flagged, show, start, opened, refuse, powerRefusal, frameRefusal, blockRefusal, takeRefusal, overRefusal, poweredUp, framed, given, taken, overed, step, next}
+use Rattle.card.specs.Step.{Call, powerUp, commandFrame, blockIn, takeBlock, busyOver, World, world, Result, over, sent, line, wire, replyOf, after, flagged, show, start, opened, refuse, blockSize, powerRefusal, frameRefusal, blockRefusal, success, takeRefusal, overRefusal, poweredUp, framed, given, taken, overed, step, next}
 use Rattle.card.specs.SendStatus.{SendsStatus, statusR1, StatusSent, SendStatusShows, Entry, call, sendStatus, SameButStatus, blockOf, AlikeButStatus, AgreeButStatus, SendStatusInserted}
 use Rattle.card.proofs.Choices.{unless-either}
 use Rattle.card.proofs.Messages.{Stateless, take-bare}
@@ -52,7 +53,7 @@ module _ (w : World) (frame out : List ℕ) (h : SendsStatus w frame out) where
   found = rw (h .unmarked) refl
 
   received : receive (w .card .core) frame ≡ finish SendStatus (number (w .card .core .bus .state)) (ran (w .card .core) R1)
-  unfolding receive byCheck judge showSd settled row runAt
+  unfolding receive byCheck judge showSd settled row accepts runAt
   received =
       let mine : not (own (w .card .core .bus) (h .argument)) ≡ false = ap not (h .own) in
       simp (awake (w .card .core .bus .state) (h .permitted), h .check, found, h .permitted, mine)
@@ -65,7 +66,7 @@ module _ (w : World) (frame out : List ℕ) (h : SendsStatus w frame out) where
       record {
         answer = rw (h .passed, received) (ap (λ (k : ℕ). done (sent k)) n);
         out = rw (h .passed, received) (ap (λ (k : ℕ). statusR1 w ++ drop k out) n);
-        world = rw (h .passed, received) (ap (λ (a : Bool). world (record { core = withApp (withKept c noBits) a; line = line false }) (w .memory)) (sym (h .unmarked)));
+        world = rw (h .passed, received) (ap (λ (a : Bool). world (record { core = withApp (withKept c noBits) a; password = w .card .password; line = line false }) (w .memory)) (sym (h .unmarked)));
       }
 
 pub send-status-shows : SendStatusShows
@@ -101,15 +102,15 @@ record Matched (c : Call) (x y : Result) : Type 0 where
 
 module _ (w : World) (b : Kept) (l : Line) where
   abbrev other : World
-  other = record { card = record { core = withKept (w .card .core) b; line = l }; memory = w .memory }
+  other = record { card = record { core = withKept (w .card .core) b; password = w .card .password; line = l }; memory = w .memory }
 
   refuse-same : (c : Call) (out : List ℕ) (k : ℕ) → Matched c (refuse w out k) (refuse other out k)
-  refuse-same c out k = record { answer = refl; block = refl; world = record { core = refl; memory = refl } }
+  refuse-same c out k = record { answer = refl; block = refl; world = record { core = refl; password = refl; memory = refl } }
 
-  show-same : (c : Call) (out : List ℕ) (t u : Turn) → SameTurn t u → blockOf c (show w out t .out) ≡ blockOf c (show other out u .out)
-      → Matched c (show w out t) (show other out u)
+  show-same : (c : Call) (p : Password) (out : List ℕ) (t u : Turn) → SameTurn t u → blockOf c (show w p out t .out) ≡ blockOf c (show other p out u .out)
+      → Matched c (show w p out t) (show other p out u)
   unfolding show
-  show-same c out t u s blocks =
+  show-same c password out t u s blocks =
       let p = w .card .line .«com_crc_error» in
       let q = l .«com_crc_error» in
       let m : after w t ≡ after other u =
@@ -117,10 +118,10 @@ module _ (w : World) (b : Kept) (l : Line) where
       record {
         answer = ap done (reply-statusless (t .message) p ∙ ap (replyOf false) (s .message) ∙ sym (reply-statusless (u .message) q));
         block = blocks;
-        world = record { core = λ i. withMarks (s .core i) (m i .marks); memory = λ i. m i .memory };
+        world = record { core = λ i. withMarks (s .core i) (m i .marks); password = refl; memory = λ i. m i .memory };
       }
 
-  take-block : (out : List ℕ) (t u : Turn) → SameTurn t u → Stateless (t .message) → Stateless (u .message) → show w out t .out ≡ show other out u .out
+  take-block : (out : List ℕ) (t u : Turn) → SameTurn t u → Stateless (t .message) → Stateless (u .message) → show w (w .card .password) out t .out ≡ show other (w .card .password) out u .out
   unfolding show
   take-block out t u s f g =
       let p = w .card .line .«com_crc_error» in
@@ -130,34 +131,35 @@ module _ (w : World) (b : Kept) (l : Line) where
       λ i. e i ++ drop (length (e i)) out
 
   step-same : (c : Call) → Matched c (step w c) (step other c)
-  unfolding step poweredUp framed given taken overed unsound unsoundTests
-  step-same (powerUp s) =
-      let r : Result = record { answer = done over; world = world (start s) (w .memory); out = [] } in
-      unless-either (Matched (powerUp s)) (powerRefusal w s) w other [] {x = r} {y = r} (refuse-same (powerUp s) [])
-      (record { answer = refl; block = refl; world = record { core = refl; memory = refl } })
+  unfolding step poweredUp framed given taken overed unsound unsoundTests blockSize
+  step-same (powerUp s p) =
+      let r : Result = record { answer = done over; world = world (start s p) (w .memory); out = [] } in
+      unless-either (Matched (powerUp s p)) (powerRefusal w s p) w other [] {x = r} {y = r} (refuse-same (powerUp s p) [])
+      (record { answer = refl; block = refl; world = record { core = refl; password = refl; memory = refl } })
   step-same (commandFrame frame out) =
       let t = receive (w .card .core) frame in
       let u = receive (other .card .core) frame in
-      unless-either (Matched (commandFrame frame out)) (frameRefusal w frame out) w other out {x = show w out t} {y = show other out u}
-      (refuse-same (commandFrame frame out) out) (show-same (commandFrame frame out) out t u (receive-same (w .card .core) b frame) refl)
+      unless-either (Matched (commandFrame frame out)) (frameRefusal w frame out) w other out {x = show w (w .card .password) out t} {y = show other (w .card .password) out u}
+      (refuse-same (commandFrame frame out) out) (show-same (commandFrame frame out) (w .card .password) out t u (receive-same (w .card .core) b frame) refl)
   step-same (blockIn s) =
-      let t = blockInto (opened w) (w .card .core) s in
-      let u = blockInto (opened w) (other .card .core) s in
-      unless-either (Matched (blockIn s)) (blockRefusal w s) w other [] {x = show w [] t} {y = show other [] u}
-      (refuse-same (blockIn s) []) (show-same (blockIn s) [] t u (block-same (w .card .core) b (opened w) s) refl)
+      let t = blockInto (opened w) (success w s) (w .card .core) s in
+      let u = blockInto (opened w) (success w s) (other .card .core) s in
+      let p = passwordInto (opened w) (success w s) (w .card .password) s in
+      unless-either (Matched (blockIn s)) (blockRefusal w s) w other [] {x = show w p [] t} {y = show other p [] u}
+      (refuse-same (blockIn s) []) (show-same (blockIn s) p [] t u (block-same (w .card .core) b (opened w) (success w s) s) refl)
   step-same (takeBlock out) =
       let o = opened w in
       let t = takeFrom o (w .card .core) (w .memory) in
       let u = takeFrom o (other .card .core) (w .memory) in
       let s : SameTurn t u = take-same (w .card .core) b o (w .memory) in
-      unless-either (Matched (takeBlock out)) (takeRefusal w out) w other out {x = show w out t} {y = show other out u}
+      unless-either (Matched (takeBlock out)) (takeRefusal w out) w other out {x = show w (w .card .password) out t} {y = show other (w .card .password) out u}
       (refuse-same (takeBlock out) out)
-      (show-same (takeBlock out) out t u s (take-block out t u s (take-bare o (w .card .core) (w .memory)) (take-bare o (other .card .core) (w .memory))))
+      (show-same (takeBlock out) (w .card .password) out t u s (take-block out t u s (take-bare o (w .card .core) (w .memory)) (take-bare o (other .card .core) (w .memory))))
   step-same busyOver =
       let t = overFrom (opened w) (w .card .core) in
       let u = overFrom (opened w) (other .card .core) in
-      unless-either (Matched busyOver) (overRefusal w) w other [] {x = show w [] t} {y = show other [] u}
-      (refuse-same busyOver []) (show-same busyOver [] t u (over-same (w .card .core) b (opened w)) refl)
+      unless-either (Matched busyOver) (overRefusal w) w other [] {x = show w (w .card .password) [] t} {y = show other (w .card .password) [] u}
+      (refuse-same busyOver []) (show-same busyOver (w .card .password) [] t u (over-same (w .card .core) b (opened w)) refl)
 
 -- ---- lists of calls
 
@@ -165,7 +167,7 @@ alike : (a b : World) → SameButStatus a b → (c : Call) → AlikeButStatus a 
 alike a b s c =
     let m : Matched c (step a c) (step b c) =
     subst (λ (w : World). Matched c (step a c) (step w c))
-    (λ i. record { card = record { core = sym (rekept (a .card .core) (b .card .core) (s .core)) i; line = b .card .line }; memory = s .memory i })
+    (λ i. record { card = record { core = sym (rekept (a .card .core) (b .card .core) (s .core)) i; password = s .password i; line = b .card .line }; memory = s .memory i })
     (step-same a (b .card .core .kept) (b .card .line) c) in
     record { answer = m .answer; block = m .block; world = m .world }
 
@@ -180,9 +182,10 @@ agree (sendStatus frame out ∷ h) a b s =
     let y : SameButStatus (next a (commandFrame frame out)) b =
     record {
       core = ap (λ (v : World). withKept (v .card .core) noBits) (x .world) ∙ s .core;
+      password = ap (λ (v : World). v .card .password) (x .world) ∙ s .password;
       memory = ap (λ (v : World). v .memory) (x .world) ∙ s .memory;
     } in
     (y, agree h (next a (commandFrame frame out)) b y)
 
 pub send-status-inserted : SendStatusInserted
-send-status-inserted w h = agree h w w (record { core = refl; memory = refl })
+send-status-inserted w h = agree h w w (record { core = refl; password = refl; memory = refl })

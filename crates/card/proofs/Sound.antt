@@ -1,47 +1,60 @@
 -- Every call keeps a world sound, and the world of a power-up is sound.
 use mathlib.Core.Path.{_≡_, refl, sym, ap, subst, _∙_}
-use mathlib.Core.Bool.{true, false, not}
+use mathlib.Core.Bool.{Bool, true, false, not, and-eq-true-iff}
 use mathlib.Core.List.{List, [], _∷_}
 use Rattle.codec.specs.Answer.{done}
-use Prim.Native.Nat.{ℕ}
-use borrow.Author.Tests.{eqb-true, eq-eqb, not-false}
-use lib.Dec.{eqb}
-use lib.ListN.{length}
+use Prim.Native.Nat.{ℕ, _+_, _-_, _*_, _/_, _≤_}
+use native.Mathlib.Omega.{arith}
+use borrow.Author.Tests.{eqb-true, leb-true, not-false}
+use lib.Dec.{eqb, leb}
+use lib.ListN.{length, length-take}
 use Rattle.reg_csd.specs.Csd.{csdValues}
 use Rattle.card.specs.declared.Settings.{Settings}
 use Rattle.card.specs.declared.Card.{Card}
-use Rattle.card.specs.Settings.{capacity, groups, allowed, csdOf}
+use Rattle.card.specs.declared.Password.{Password}
+use Rattle.card.specs.Settings.{BLOCK, GROUP, PASSWORD, capacity, groups, allowed, csdOf}
 use Rattle.card.specs.Record.{withMarks}
 use Rattle.card.specs.Protect.{whole}
 use Rattle.card.specs.Effects.{stored}
 use Rattle.card.specs.Frame.{Turn, receive}
-use Rattle.card.specs.Data.{takeFrom, blockInto, overFrom}
-use Rattle.card.specs.Soundness.{equal, badApp}
-use Rattle.card.specs.Step.{powerUp, commandFrame, blockIn, takeBlock, busyOver, World, world, Result, over, after, show, applies, fresh, start, blockSize, opened, powerRefusal, frameRefusal, blockRefusal, takeRefusal, overRefusal, poweredUp, framed, given, taken, overed, step}
+use Rattle.card.specs.Lock.{content}
+use Rattle.card.specs.Data.{takeFrom, blockInto, passwordInto, overFrom}
+use Rattle.card.specs.Soundness.{badApp, markedFrom, badPassword}
+use Rattle.card.specs.Step.{powerUp, commandFrame, blockIn, takeBlock, busyOver, World, world, Result, over, after, show, applies, fresh, start, blockSize, opened, success, permitted, powerRefusal, frameRefusal, blockRefusal, takeRefusal, overRefusal, poweredUp, framed, given, taken, overed, step}
 use Rattle.card.specs.History.{Sound, KeepsSound, StartsSound}
 use Rattle.card.proofs.Choices.{unless-keeps, spared}
-use Rattle.card.proofs.Facts.{Marked, Facts, facts-sound, sound-facts}
+use Rattle.card.proofs.Facts.{Marked, Facts, equal-refl, facts-sound, sound-facts}
 use Rattle.card.proofs.Changes.{remark, reset-sturdy}
 use Rattle.card.proofs.Extent.{length-affected, marked-affected}
 use Rattle.card.proofs.Frames.{Lasting, receive-lasting}
 use Rattle.card.proofs.Marks.{none-marked}
+use Rattle.card.proofs.Locked.{receive-held, take-held, over-held}
+use Rattle.card.proofs.Passwords.{Fit, fits-in, block-fits}
 use Rattle.card.proofs.Transfers.{take-lasting, block-lasting, over-lasting}
 
 -- ---- a power-up
 
-pub equal-refl : (xs : List ℕ) → equal xs xs ≡ true
-unfolding equal
-equal-refl [] = refl
-equal-refl (x ∷ xs) = rw (eq-eqb x x refl, equal-refl xs)
-
-fresh-facts : (s : Settings) → allowed s ≡ true → Facts (fresh s)
+fresh-facts : (s : Settings) (locked : Bool) → allowed s ≡ true → Facts (fresh s locked)
 unfolding fresh badApp
-fresh-facts s e =
-    (reset-sturdy (fresh s) (record { settings = e; csd = equal-refl (csdValues (csdOf s)) }) (none-marked 256 (groups s)), refl)
+fresh-facts s locked e =
+    (reset-sturdy (fresh s locked) (record { settings = e; csd = equal-refl (csdValues (csdOf s)) }) (none-marked 256 (groups s)), refl)
 
-start-sound : (s : Settings) (memory : List ℕ) → allowed s ≡ true → length memory ≡ capacity s → Sound (world (start s) memory)
+-- locked exactly if there is a password
+kept-fit : (n : ℕ) → n ≤ PASSWORD → Fit (leb 1 n) n
+kept-fit n h = record { high = h; set = λ e. leb-true 1 n e }
+
+start-sound : (s : Settings) (p : Password) (memory : List ℕ) → permitted s p ≡ true → length memory ≡ capacity s
+    → Sound (world (start s p) memory)
 unfolding start fresh
-start-sound s memory e l = record { core = sound-facts (fresh s) (fresh-facts s e); memory = l }
+start-sound s p memory e l =
+    let t = and-eq-true-iff (allowed s) (leb (p .length) PASSWORD) .0 e in
+    let n = length (content p) in
+    let high : n ≤ PASSWORD = let h = leb-true (p .length) PASSWORD (t .1) in simp length-take (omega (arith, h)) in
+    record {
+      core = sound-facts (fresh s (leb 1 n)) (fresh-facts s (leb 1 n) (t .0));
+      password = fits-in (leb 1 n) n (kept-fit n high);
+      memory = l;
+    }
 
 equal-spared : (m n : ℕ) → not (eqb m n) ≡ false → m ≡ n
 equal-spared m n e = eqb-true m n (not-false (eqb m n) e)
@@ -55,63 +68,75 @@ module _ (w : World) (s : Sound w) where
 
   -- ---- a call that runs
 
-  show-sound : (out : List ℕ) (t : Turn) → Lasting (w .card .core) t → Sound (show w out t .world)
+  show-sound : (p : Password) (out : List ℕ) (t : Turn) → Lasting (w .card .core) t → badPassword (t .core .locked) (p .length) ≡ false
+      → Sound (show w p out t .world)
   unfolding show
-  show-sound out t l =
+  show-sound p out t l password =
       let settings = w .card .core .settings in
       let m = stored (w .memory) (w .card .core .marks) in
       let wp = whole settings in
       let kept : Marked (t .core .settings) (after w t .marks) =
-      subst (λ (x : Settings). Marked x (after w t .marks)) (sym (l .settings))
+      subst (λ (n : ℕ). markedFrom (after w t .marks) ((n + (GROUP - 1)) / GROUP) ≡ false) (sym (l .blocks))
       (marked-affected settings wp (t .payload) m (t .effect) (l .inside) (core-facts .0 .marks)) in
       record {
         core = sound-facts (withMarks (t .core) (after w t .marks)) (remark (t .core) (l .facts .0) (after w t .marks) kept, l .facts .1);
-        memory = length-affected settings wp (t .payload) m (t .effect) (l .inside) (s .memory) ∙ ap capacity (sym (l .settings));
+        password = password;
+        memory = length-affected settings wp (t .payload) m (t .effect) (l .inside) (s .memory) ∙ ap (λ (n : ℕ). n * BLOCK) (sym (l .blocks));
       }
+
+  -- the lock is held, and the password with it
+  held-sound : {locked : Bool} → locked ≡ w .card .core .locked → badPassword locked (w .card .password .length) ≡ false
+  held-sound e = ap (λ (l : Bool). badPassword l (w .card .password .length)) e ∙ s .password
 
   -- ---- the five calls
 
-  poweredUp-sound : (settings : Settings) → Sound (poweredUp w settings .world)
+  poweredUp-sound : (settings : Settings) (p : Password) → Sound (poweredUp w settings p .world)
   unfolding poweredUp applies
-  poweredUp-sound settings =
-      unless-keeps Good (powerRefusal w settings) w [] {x = record { answer = done over; world = world (start settings) (w .memory); out = [] }} (λ k. s)
+  poweredUp-sound settings p =
+      unless-keeps Good (powerRefusal w settings p) w [] {x = record { answer = done over; world = world (start settings p) (w .memory); out = [] }} (λ k. s)
       (λ e.
       let three = spared 3 (6 ∷ []) _ e in
       let six = spared 6 [] _ (three .1) in
-      start-sound settings (w .memory) (not-false (allowed settings) (six .0)) (equal-spared (length (w .memory)) (capacity settings) (three .0)))
+      start-sound settings p (w .memory) (not-false (permitted settings p) (six .0)) (equal-spared (length (w .memory)) (capacity settings) (three .0)))
 
   framed-sound : (frame out : List ℕ) → Sound (framed w frame out .world)
   unfolding framed
   framed-sound frame out =
       let t = receive (w .card .core) frame in
-      unless-keeps Good (frameRefusal w frame out) w out {x = show w out t} (λ k. s) (λ e. show-sound out t (receive-lasting (w .card .core) frame core-facts))
+      unless-keeps Good (frameRefusal w frame out) w out {x = show w (w .card .password) out t} (λ k. s)
+      (λ e. show-sound (w .card .password) out t (receive-lasting (w .card .core) frame core-facts) (held-sound (receive-held (w .card .core) frame)))
 
   given-sound : (packet : List ℕ) → Sound (given w packet .world)
   unfolding given applies
   given-sound packet =
-      let t = blockInto (opened w) (w .card .core) packet in
-      unless-keeps Good (blockRefusal w packet) w [] {x = show w [] t} (λ k. s)
+      let c = w .card .core in
+      let t = blockInto (opened w) (success w packet) c packet in
+      let p = passwordInto (opened w) (success w packet) (w .card .password) packet in
+      unless-keeps Good (blockRefusal w packet) w [] {x = show w p [] t} (λ k. s)
       (λ e.
-      let one = spared 1 (2 ∷ 3 ∷ 5 ∷ []) _ e in
-      show-sound [] t (block-lasting (w .card .core) core-facts packet (equal-spared (length packet) (blockSize (w .card .core)) (one .0))))
+      let one = spared 1 (3 ∷ 5 ∷ []) _ (spared 2 (1 ∷ 3 ∷ 5 ∷ []) _ e .1) in
+      show-sound p [] t (block-lasting c core-facts (success w packet) packet (equal-spared (length packet) (blockSize c) (one .0)))
+      (block-fits c (w .card .password) packet (opened w) (s .password)))
 
   taken-sound : (out : List ℕ) → Sound (taken w out .world)
   unfolding taken
   taken-sound out =
       let t = takeFrom (opened w) (w .card .core) (w .memory) in
-      unless-keeps Good (takeRefusal w out) w out {x = show w out t} (λ k. s) (λ e. show-sound out t (take-lasting (w .card .core) core-facts (w .memory)))
+      unless-keeps Good (takeRefusal w out) w out {x = show w (w .card .password) out t} (λ k. s)
+      (λ e. show-sound (w .card .password) out t (take-lasting (w .card .core) core-facts (w .memory)) (held-sound (take-held (w .card .core) (opened w) (w .memory))))
 
   overed-sound : Sound (overed w .world)
   unfolding overed
   overed-sound =
       let t = overFrom (opened w) (w .card .core) in
-      unless-keeps Good (overRefusal w) w [] {x = show w [] t} (λ k. s) (λ e. show-sound [] t (over-lasting (w .card .core) core-facts))
+      unless-keeps Good (overRefusal w) w [] {x = show w (w .card .password) [] t} (λ k. s)
+      (λ e. show-sound (w .card .password) [] t (over-lasting (w .card .core) core-facts) (held-sound (over-held (w .card .core) (opened w))))
 
 -- ---- the claims
 
 pub keeps-sound : KeepsSound
 unfolding step
-keeps-sound w (powerUp settings) s = poweredUp-sound w s settings
+keeps-sound w (powerUp settings p) s = poweredUp-sound w s settings p
 keeps-sound w (commandFrame frame out) s = framed-sound w s frame out
 keeps-sound w (blockIn packet) s = given-sound w s packet
 keeps-sound w (takeBlock out) s = taken-sound w s out
@@ -119,4 +144,4 @@ keeps-sound w busyOver s = overed-sound w s
 
 pub starts-sound : StartsSound
 starts-sound w h =
-    subst (λ (c : Card). Sound (world c (w .memory))) (sym (h .powered)) (start-sound (h .settings) (w .memory) (h .permitted) (h .memory))
+    subst (λ (c : Card). Sound (world c (w .memory))) (sym (h .powered)) (start-sound (h .settings) (h .password) (w .memory) (h .allowed) (h .memory))

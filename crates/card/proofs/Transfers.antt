@@ -1,36 +1,38 @@
 -- Data blocks and busy over keep a record sound, and a block that is stored is inside the card.
 use mathlib.Core.Path.{_≡_, refl, sym, subst, _∙_}
-use mathlib.Core.Bool.{Bool, true, false, not, _&&_}
+use mathlib.Core.Bool.{Bool, true, false, cond, not, _&&_}
 use mathlib.Core.List.{List}
 use Prim.Native.Nat.{ℕ, _+_, _-_, _/_, _%_, _≤_, _<_}
 use native.Mathlib.Omega.{arith}
 use borrow.Author.Tests.{leb-false, ltb-false, eqb-true, not-false}
 use lib.Dec.{eqb}
 use lib.ListN.{length, length-take}
-use Rattle.wire_packet.specs.Packet.{packetRight, payloadOf}
+use Rattle.wire_packet.specs.Packet.{packetRight, payloadOf, CHECK}
 use Rattle.card.specs.declared.Source.{Source}
 use Rattle.card.specs.declared.Source.the-variants.{Blocks, WriteProtect, SdStatus, WrittenBlocks, Scr}
 use Rattle.card.specs.declared.Sink.{Sink}
-use Rattle.card.specs.declared.Sink.the-variants.{Single, Multiple}
+use Rattle.card.specs.declared.Sink.the-variants.{Single, Multiple, LockUnlock}
 use Rattle.card.specs.declared.State.{State}
 use Rattle.card.specs.declared.State.the-variants.{Idle, Ready, Ident, Stby, Tran, Data, Rcv, Prg, Dis, Ina}
 use Rattle.card.specs.declared.Open.{Open}
 use Rattle.card.specs.declared.Open.the-variants.{Nothing, Read, Write, Busy}
 use Rattle.card.specs.declared.Core.{Core}
+use Rattle.card.specs.declared.lock.Operation.{Operation}
+use Rattle.card.specs.declared.lock.Operation.the-variants.{ForceErase, Lock, Unlock, ClearPassword, SetPassword, Invalid}
 use Rattle.card.specs.Settings.{BLOCK, capacity}
 use Rattle.card.specs.Record.{withState, withWritten}
-use Rattle.card.specs.State.{number, openOf, sourceAddress, sinkAddress, sink}
+use Rattle.card.specs.State.{number, openOf, locking, sourceAddress, sink}
 use Rattle.card.specs.Protect.{whole, guarded}
 use Rattle.card.specs.Checks.{outside, crossing}
 use Rattle.card.specs.Frame.{Turn, token}
-use Rattle.card.specs.Data.{said, takeSource, takeFrom, writeInto, blockInto, overFrom, holdWrite, accepted, REJECTED}
+use Rattle.card.specs.Lock.{operation}
+use Rattle.card.specs.Data.{said, takeSource, takeFrom, writeInto, operate, lockInto, blockInto, overFrom, holdWrite, accepted, REJECTED}
 use Rattle.card.specs.Soundness.{badRca, badApp}
 use Rattle.card.specs.Step.{blockSize}
-use Rattle.card.proofs.Choices.{cond-elim}
+use Rattle.card.proofs.Choices.{cond-elim, cond-either}
 use Rattle.card.proofs.Facts.{Transfer, Facts}
-use Rattle.card.proofs.Changes.{stand, none-transfer, data-transfer, rcv-transfer}
+use Rattle.card.proofs.Changes.{stand, unprotect, none-transfer, data-transfer, rcv-transfer}
 use Rattle.card.proofs.Frames.{Lasting, lasting}
-use Rattle.card.proofs.Opened.{sink-address}
 
 -- ---- the states from stby to dis
 
@@ -99,6 +101,10 @@ module _ (c : Core) (f : Facts c) where
       goes to (c .written) here there
       (subst (λ (o : Open). Transfer (c .settings) o (c .written)) (sym e) (none-transfer (c .settings) (c .written) (f .0 .transfer .count)))
 
+  -- busy, with so many blocks written
+  busy-transfer : (n : ℕ) → n ≤ c .settings .blocks → Transfer (c .settings) (Busy Tran) n
+  busy-transfer n room = record { inside = omega arith; aligned = refl; count = room; most = room }
+
   tran-facts : Selected (c .bus .state) → Facts (withState c Tran)
   tran-facts here = ends Tran here tran-selected refl
 
@@ -149,9 +155,7 @@ module _ (c : Core) (f : Facts c) where
       rcv-facts : (m h : Bool) (at n : ℕ) → at ≤ capacity (c .settings) → at % BLOCK ≡ 0 → n ≤ at / BLOCK
           → Facts (withWritten (withState c (Rcv (sink m at h))) n)
       rcv-facts m h at n near on count =
-          let k = sink m at h in
-          let e : sinkAddress k ≡ at = sink-address m h at in
-          goes (Rcv k) n here (rcv-selected k) (rcv-transfer (c .settings) k n (omega arith) (rw e on) (rw e count))
+          goes (Rcv (sink m at h)) n here (rcv-selected (sink m at h)) (rcv-transfer (c .settings) m h at n near on count)
 
       hold : Facts (holdWrite c multiple a)
       hold = rcv-facts multiple true a (c .written) near aligned most
@@ -164,12 +168,9 @@ module _ (c : Core) (f : Facts c) where
           let room : n ≤ c .settings .blocks = omega arith in
           cond-elim (λ (s : State). Facts (withState (withWritten c n) s)) multiple
           (λ q. rcv-facts true false (a + BLOCK) n (omega arith) (omega arith) more)
-          (λ q. goes Prg n here prg-selected (none-as-busy room))
-        where
-          none-as-busy : c .written + 1 ≤ c .settings .blocks → Transfer (c .settings) (Busy Tran) (c .written + 1)
-          none-as-busy room = record { inside = omega arith; aligned = refl; count = room; most = room }
+          (λ q. goes Prg n here prg-selected (busy-transfer n room))
 
-      write-lasting : (packet : List ℕ) → length packet ≡ blockSize c → Lasting c (writeInto multiple a held c packet)
+      write-lasting : (packet : List ℕ) → length packet ≡ BLOCK + CHECK → Lasting c (writeInto multiple a held c packet)
       unfolding writeInto payloadOf
       write-lasting packet size =
           let P : Turn → Type 0 = λ t. Lasting c t in
@@ -181,23 +182,47 @@ module _ (c : Core) (f : Facts c) where
           (λ v. cond-elim P (guarded (whole (c .settings)) (c .marks) a) (λ x. lasting hold refl)
           (λ x.
           let below : a < top = leb-false top a v in
-          record { facts = on below; settings = refl; inside = simp length-take (omega arith) }))))
+          record { facts = on below; blocks = refl; inside = simp length-take (omega arith) }))))
 
-  block-open : (packet : List ℕ) → length packet ≡ blockSize c → (o : Open) → Opens o (c .bus .state) → Transfer (c .settings) o (c .written)
-      → Lasting c (blockInto o c packet)
+  -- ---- a block of 42
+
+  prg-facts : Selected (c .bus .state) → Facts (withState c Prg)
+  prg-facts here = goes Prg (c .written) here prg-selected (busy-transfer (c .written) (f .0 .transfer .count))
+
+  operate-lasting : Facts (withState c Prg) → (o : Operation) → Lasting c (operate o c)
+  operate-lasting g ForceErase = record { facts = (unprotect (withState c Prg) (g .0), g .1); blocks = refl; inside = tt }
+  operate-lasting g Lock = lasting g refl
+  operate-lasting g Unlock = lasting g refl
+  operate-lasting g ClearPassword = lasting g refl
+  operate-lasting g (SetPassword lock) = lasting g refl
+  operate-lasting g Invalid = lasting g refl
+
+  lock-lasting : (success : Bool) (packet : List ℕ) → Selected (c .bus .state) → Lasting c (lockInto success c packet)
+  unfolding lockInto
+  lock-lasting success packet here =
+      let P : Turn → Type 0 = λ t. Lasting c t in
+      let prg : Facts (withState c Prg) = prg-facts here in
+      cond-either P (not (packetRight packet)) (lasting (tran-facts here) refl)
+      (cond-either P success (operate-lasting prg (operation (payloadOf packet))) (lasting prg refl))
+
+  block-open : (success : Bool) (packet : List ℕ) (o : Open) → length packet ≡ cond (locking o) (c .length) BLOCK + CHECK → Opens o (c .bus .state)
+      → Transfer (c .settings) o (c .written) → Lasting c (blockInto o success c packet)
   unfolding blockInto
-  block-open packet size Nothing h t = lasting f refl
-  block-open packet size (Read src) h t = lasting f refl
-  block-open packet size (Write (Single a held)) h t =
+  block-open success packet Nothing size h t = lasting f refl
+  block-open success packet (Read src) size h t = lasting f refl
+  block-open success packet (Write (Single a held)) size h t =
       let aligned : a % BLOCK ≡ 0 = eqb-true (a % BLOCK) 0 (not-false (eqb (a % BLOCK) 0) (t .aligned)) in
       write-lasting false held a h (t .inside) aligned (t .most) packet size
-  block-open packet size (Write (Multiple a held)) h t =
+  block-open success packet (Write (Multiple a held)) size h t =
       let aligned : a % BLOCK ≡ 0 = eqb-true (a % BLOCK) 0 (not-false (eqb (a % BLOCK) 0) (t .aligned)) in
       write-lasting true held a h (t .inside) aligned (t .most) packet size
-  block-open packet size (Busy to) h t = lasting f refl
+  block-open success packet (Write LockUnlock) size h t = lock-lasting success packet h
+  block-open success packet (Busy to) size h t = lasting f refl
 
-  pub block-lasting : (packet : List ℕ) → length packet ≡ blockSize c → Lasting c (blockInto (openOf (c .bus .state)) c packet)
-  block-lasting packet size = block-open packet size (openOf (c .bus .state)) (opens (c .bus .state)) (f .0 .transfer)
+  pub block-lasting : (success : Bool) (packet : List ℕ) → length packet ≡ blockSize c
+      → Lasting c (blockInto (openOf (c .bus .state)) success c packet)
+  unfolding blockSize
+  block-lasting success packet size = block-open success packet (openOf (c .bus .state)) size (opens (c .bus .state)) (f .0 .transfer)
 
   -- ---- busy over
 

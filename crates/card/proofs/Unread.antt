@@ -8,19 +8,22 @@ use lib.Dec.{eqb, leb, ltb}
 use Rattle.wire_frame.specs.Command.{frameCheck}
 use Rattle.wire_frame.specs.declared.command.FrameCheck.{FrameCheck}
 use Rattle.wire_frame.specs.declared.command.FrameCheck.the-variants.{Good, Size, Start, Check as WrongCheck}
-use Rattle.wire_packet.specs.Packet.{packetRight}
+use Rattle.wire_packet.specs.Packet.{packetRight, payloadOf}
 use Rattle.wire_response.specs.Response as Wire
 use Rattle.card.specs.declared.Source.{Source}
 use Rattle.card.specs.declared.Source.the-variants.{Blocks, WriteProtect, SdStatus, WrittenBlocks, Scr}
+use Rattle.card.specs.declared.Sink.{Sink}
 use Rattle.card.specs.declared.Sink.the-variants.{Single, Multiple}
 use Rattle.card.specs.declared.Open as Open
 use Rattle.card.specs.declared.Open.{Open}
 use Rattle.card.specs.declared.Open.the-variants.{Read, Write, Busy}
 use Rattle.card.specs.declared.Kept.{Kept}
 use Rattle.card.specs.declared.Core.{Core}
+use Rattle.card.specs.declared.lock.Operation.{Operation}
+use Rattle.card.specs.declared.lock.Operation.the-variants.{ForceErase, Lock, Unlock, ClearPassword, SetPassword, Invalid}
 use Rattle.card.specs.declared.command.Command as Command
 use Rattle.card.specs.declared.command.Command.{Command}
-use Rattle.card.specs.declared.command.Command.the-variants.{GoIdleState, AllSendCid, SendRelativeAddr, SelectCard, DeselectCard, SendIfCond, SendCsd, SendCid, StopTransmission, SendStatus, AppCmd, GoInactiveState, SetBlocklen, ReadSingleBlock, ReadMultipleBlock, SendWriteProt, WriteBlock, WriteMultipleBlock, SetWriteProt, ClrWriteProt, Erase, EraseWrBlkStart, EraseWrBlkEnd, SendNumWrBlocks, SendScr, SetWrBlkEraseCount, SetClrCardDetect, SdSendOpCond, Unknown}
+use Rattle.card.specs.declared.command.Command.the-variants.{GoIdleState, AllSendCid, SendRelativeAddr, SelectCard, DeselectCard, SendIfCond, SendCsd, SendCid, StopTransmission, SendStatus, AppCmd, GoInactiveState, SetBlocklen, ReadSingleBlock, ReadMultipleBlock, SendWriteProt, WriteBlock, WriteMultipleBlock, LockUnlock, SetWriteProt, ClrWriteProt, Erase, EraseWrBlkStart, EraseWrBlkEnd, SendNumWrBlocks, SendScr, SetWrBlkEraseCount, SetClrCardDetect, SdSendOpCond, Unknown}
 use Rattle.card.specs.declared.done.Response as Response
 use Rattle.card.specs.declared.done.Response.{Response}
 use Rattle.card.specs.declared.done.Response.the-variants.{R1, R6, Cid, Csd, R3, R7}
@@ -32,12 +35,13 @@ use Rattle.card.specs.Settings.{BLOCK, capacity, cidBytes, csdBytes}
 use Rattle.card.specs.Record.{withKept, withApp, isSet, address}
 use Rattle.card.specs.State.{number, ina}
 use Rattle.card.specs.Status.{noBits}
-use Rattle.card.specs.Table.{row, commandOf, own, misses, setsApp, legal}
+use Rattle.card.specs.Table.{row, commandOf, own, misses, setsApp, legal, accepts}
 use Rattle.card.specs.Protect.{whole, guarded, anyGuarded}
 use Rattle.card.specs.Checks.{Check, firstFailure, outside, crossing}
 use Rattle.card.specs.Execute.{ran, raise, moved, checked, readBlocks, writeBlocks, setMark, window, fitting, dropErase, pending, settled, eraseStart, eraseEnd, skipped, erased, erase, sendOpCond, runAt, run}
+use Rattle.card.specs.Lock.{operation}
 use Rattle.card.specs.Frame.{Message, silence, r1, r6, plain, block, token, finished, Turn, judge, messageOf, cleared, finish, showSd, byCheck, receive}
-use Rattle.card.specs.Data.{takeSource, takeFrom, writeInto, blockInto, overFrom}
+use Rattle.card.specs.Data.{takeSource, takeFrom, writeInto, operate, lockInto, blockInto, overFrom}
 use Rattle.card.proofs.Frames.{cleared-kept}
 
 -- the same choice on both sides
@@ -117,6 +121,7 @@ runAt-same ReadMultipleBlock c b x a = read-same c b ReadMultipleBlock true a
 runAt-same SendWriteProt c b x a = checked-same c b _ (same refl)
 runAt-same WriteBlock c b x a = write-same c b WriteBlock false a
 runAt-same WriteMultipleBlock c b x a = write-same c b WriteMultipleBlock true a
+runAt-same LockUnlock c b x a = same refl
 runAt-same SetWriteProt c b x a = mark-same c b SetWriteProt true a
 runAt-same ClrWriteProt c b x a = mark-same c b ClrWriteProt false a
 runAt-same Erase c b x a = erase-same c b
@@ -195,7 +200,7 @@ module _ (c : Core) (b : Kept) where
   judge-same index argument =
       let k = commandOf (c .bus) index argument in
       let R : Judged → Judged → Type 0 = λ i j. SameTurn (showSd c i) (showSd (withKept c b) j) in
-      cond-both R (legal k (c .bus .state))
+      cond-both R (accepts k (c .locked) && legal k (c .bus .state))
       (cond-both R (misses (row k .rca) (own (c .bus) argument)) (turned refl)
       (finish-same k (number (c .bus .state)) _ _ (run-same k (settled k c) (settled k (withKept c b)) (settled-same k c b) argument)))
       (turned refl)
@@ -240,13 +245,28 @@ module _ (c : Core) (b : Kept) where
       (cond-both SameTurn (outside (capacity (c .settings)) address) (turned refl)
       (cond-both SameTurn (guarded (whole (c .settings)) (c .marks) address) (turned refl) (turned refl))))
 
-  pub block-same : (o : Open) (packet : List ℕ) → SameTurn (blockInto o c packet) (blockInto o (withKept c b) packet)
+  operate-same : (o : Operation) → SameTurn (operate o c) (operate o (withKept c b))
+  operate-same ForceErase = turned refl
+  operate-same Lock = turned refl
+  operate-same Unlock = turned refl
+  operate-same ClearPassword = turned refl
+  operate-same (SetPassword lock) = turned refl
+  operate-same Invalid = turned refl
+
+  lock-same : (success : Bool) (packet : List ℕ) → SameTurn (lockInto success c packet) (lockInto success (withKept c b) packet)
+  unfolding lockInto
+  lock-same success packet =
+      cond-both SameTurn (not (packetRight packet)) (turned refl)
+      (cond-both SameTurn success (operate-same (operation (payloadOf packet))) (turned refl))
+
+  pub block-same : (o : Open) (success : Bool) (packet : List ℕ) → SameTurn (blockInto o success c packet) (blockInto o success (withKept c b) packet)
   unfolding blockInto
-  block-same Open.Nothing packet = turned refl
-  block-same (Read s) packet = turned refl
-  block-same (Write (Single address held)) packet = sink-same false address held packet
-  block-same (Write (Multiple address held)) packet = sink-same true address held packet
-  block-same (Busy s) packet = turned refl
+  block-same Open.Nothing success packet = turned refl
+  block-same (Read s) success packet = turned refl
+  block-same (Write (Single address held)) success packet = sink-same false address held packet
+  block-same (Write (Multiple address held)) success packet = sink-same true address held packet
+  block-same (Write Sink.LockUnlock) success packet = lock-same success packet
+  block-same (Busy s) success packet = turned refl
 
   pub over-same : (o : Open) → SameTurn (overFrom o c) (overFrom o (withKept c b))
   unfolding overFrom

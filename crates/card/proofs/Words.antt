@@ -36,16 +36,18 @@ free word high low e h crc =
     ∙ digits-div high (omega (arith, digit-lt crc))
     ∙ sym (ap (λ (n : ℕ). n / 2 ^ 24) e ∙ digits-div high (omega arith))
 
-pub status-free : (k : Kept) (s : State) (app : Bool) → Free (status k (number s) app)
+pub status-free : (k : Kept) (locked : Bool) (s : State) (app : Bool) → Free (status k locked (number s) app)
 unfolding status
-status-free k s app =
-    free (status k (number s) app)
+status-free k locked s app =
+    free (status k locked (number s) app)
     (digit (k .«out_of_range») * 2 ^ 7
     + digit (k .«address_error») * 2 ^ 6
     + digit (k .«block_len_error») * 2 ^ 5
     + digit (k .«erase_seq_error») * 2 ^ 4
     + digit (k .«erase_param») * 2 ^ 3
-    + digit (k .«wp_violation») * 2 ^ 2)
+    + digit (k .«wp_violation») * 2 ^ 2
+    + digit locked * 2
+    + digit (k .«lock_unlock_failed»))
     (digit (k .«illegal_command») * 2 ^ 22
     + digit (k .«wp_erase_skip») * 2 ^ 15
     + digit (k .«erase_reset») * 2 ^ 13

@@ -1,5 +1,5 @@
--- Data blocks (01, "Take", "Block in", "Busy over"), by what the state has open.
-use mathlib.Core.Bool.{Bool, true, false, cond, not}
+-- Data blocks (01, "Take", "Block in", "Busy over"; 02, order 4), by what the state has open.
+use mathlib.Core.Bool.{Bool, true, false, cond, not, _&&_}
 use mathlib.Core.List.{List, [], _∷_}
 use Prim.Native.Nat.{ℕ, _+_}
 use lib.ListN.{take, drop, replicate}
@@ -8,23 +8,29 @@ use Rattle.wire_packet.specs.Packet.{packetRight, payloadOf}
 use Rattle.card.specs.declared.Source.{Source}
 use Rattle.card.specs.declared.Source.the-variants.{Blocks, WriteProtect, SdStatus, WrittenBlocks, Scr}
 use Rattle.card.specs.declared.Sink.{Sink}
-use Rattle.card.specs.declared.Sink.the-variants.{Single, Multiple}
+use Rattle.card.specs.declared.Sink.the-variants.{Single, Multiple, LockUnlock}
 use Rattle.card.specs.declared.State.{State}
 use Rattle.card.specs.declared.State.the-variants.{Tran, Data, Rcv, Prg}
 use Rattle.card.specs.declared.Open as Open
 use Rattle.card.specs.declared.Open.{Open}
 use Rattle.card.specs.declared.Open.the-variants.{Read, Write, Busy}
+use Rattle.card.specs.declared.Settings.{Settings}
 use Rattle.card.specs.declared.Core.{Core}
+use Rattle.card.specs.declared.Password.{Password}
+use Rattle.card.specs.declared.lock.Operation.{Operation}
+use Rattle.card.specs.declared.lock.Operation.the-variants.{ForceErase, Lock, Unlock, ClearPassword, SetPassword, Invalid}
+use Rattle.card.specs.declared.done.Effect as Effect
 use Rattle.card.specs.declared.done.Effect.{Effect}
 use Rattle.card.specs.declared.done.Effect.the-variants.{Nothing, Store}
 use Rattle.card.specs.declared.done.Flag.the-variants.{Keep}
 use Rattle.card.specs.Settings.{BLOCK, capacity, groups, scrBytes}
-use Rattle.card.specs.Record.{withState, withWritten}
-use Rattle.card.specs.State.{sink}
-use Rattle.card.specs.Status.{OUT-OF-RANGE, ADDRESS-ERROR, WP-VIOLATION}
+use Rattle.card.specs.Record.{withSettings, withLocked, withState, withWritten}
+use Rattle.card.specs.State.{sink, locking}
+use Rattle.card.specs.Status.{OUT-OF-RANGE, ADDRESS-ERROR, WP-VIOLATION, LOCK-UNLOCK-FAILED}
 use Rattle.card.specs.Protect.{groupOf, whole, guarded, markBits}
 use Rattle.card.specs.Checks.{outside, crossing}
 use Rattle.card.specs.Execute.{raise}
+use Rattle.card.specs.Lock.{operation, changed}
 use Rattle.card.specs.Frame.{Message, block, token, finished, Turn, quiet}
 
 -- a call of data leaves COM_CRC_ERROR
@@ -71,7 +77,7 @@ takeFrom (Read s) c memory = takeSource s c memory
 takeFrom (Write s) c memory = quiet c Keep
 takeFrom (Busy s) c memory = quiet c Keep
 
--- ---- block in
+-- ---- block in, of 24 and 25
 
 -- 010 and 101
 abbrev pub ACCEPTED : ℕ
@@ -105,15 +111,56 @@ writeInto multiple address held c packet =
     (cond (guarded (whole (c .settings)) (c .marks) address) (quiet (holdWrite (raise c WP-VIOLATION) multiple address) Keep)
     (storeBlock c multiple address packet))))
 
-abbrev pub writeSink : Sink → Core → List ℕ → Turn
-writeSink (Single address held) c packet = writeInto false address held c packet
-writeSink (Multiple address held) c packet = writeInto true address held c packet
+-- ---- block in, of 42: the core is told whether the operation succeeds, and does not know the password
 
-unfoldable pub blockInto : Open → Core → List ℕ → Turn
-blockInto Open.Nothing c packet = quiet c Keep
-blockInto (Read s) c packet = quiet c Keep
-blockInto (Write s) c packet = writeSink s c packet
-blockInto (Busy s) c packet = quiet c Keep
+-- temporary protection goes, and with it the bit of the CSD
+abbrev pub withoutTemporary : Settings → Settings
+withoutTemporary s = record { blocks = s .blocks; polls = s .polls; cid = s .cid; permanent = s .permanent; temporary = false }
+
+-- the record after an operation that succeeds
+abbrev pub acted : Operation → Core → Core
+acted ForceErase c = withLocked (withSettings c (withoutTemporary (c .settings))) false
+acted Lock c = withLocked c true
+acted Unlock c = withLocked c false
+acted ClearPassword c = withLocked c false
+acted (SetPassword lock) c = withLocked c lock
+acted Invalid c = c
+
+-- what it does to memory and marks
+abbrev pub effectOf : Operation → Effect
+effectOf ForceErase = Effect.ForceErase
+effectOf Lock = Nothing
+effectOf Unlock = Nothing
+effectOf ClearPassword = Nothing
+effectOf (SetPassword lock) = Nothing
+effectOf Invalid = Nothing
+
+abbrev pub operate : Operation → Core → Turn
+operate o c = record { core = withState (acted o c) Prg; flag = Keep; message = token ACCEPTED; effect = effectOf o; payload = [] }
+
+-- a wrong check goes as for 24; any other block, failing or not, is answered 010 and goes to prg
+unfoldable pub lockInto : Bool → Core → List ℕ → Turn
+lockInto success c packet =
+    cond (not (packetRight packet)) (said (withState c Tran) (token REJECTED))
+    (cond success (operate (operation (payloadOf packet)) c) (said (withState (raise c LOCK-UNLOCK-FAILED) Prg) (token ACCEPTED)))
+
+-- the password after it
+unfoldable pub passwordInto : Open → Bool → Password → List ℕ → Password
+passwordInto o success p packet =
+    cond (locking o && (packetRight packet && success)) (changed (operation (payloadOf packet)) p (payloadOf packet)) p
+
+-- ---- block in
+
+abbrev pub writeSink : Sink → Bool → Core → List ℕ → Turn
+writeSink (Single address held) success c packet = writeInto false address held c packet
+writeSink (Multiple address held) success c packet = writeInto true address held c packet
+writeSink LockUnlock success c packet = lockInto success c packet
+
+unfoldable pub blockInto : Open → Bool → Core → List ℕ → Turn
+blockInto Open.Nothing success c packet = quiet c Keep
+blockInto (Read s) success c packet = quiet c Keep
+blockInto (Write s) success c packet = writeSink s success c packet
+blockInto (Busy s) success c packet = quiet c Keep
 
 -- ---- busy over
 

@@ -4,7 +4,7 @@ use mathlib.Core.List.{List, _++_}
 use Prim.Native.Nat.{ℕ, zero, suc, _+_, _*_}
 use lib.ListN.{length, take, drop, replicate}
 use Rattle.card.specs.declared.done.Effect.{Effect}
-use Rattle.card.specs.declared.done.Effect.the-variants.{Nothing, Store, Sweep, Protect}
+use Rattle.card.specs.declared.done.Effect.the-variants.{Nothing, Store, Sweep, Protect, ForceErase}
 use Rattle.card.specs.Settings.{BLOCK}
 use Rattle.card.specs.Protect.{guarded, mark}
 
@@ -34,3 +34,4 @@ affected all Nothing payload m = m
 affected all (Store address) payload m = stored (over (m .memory) address payload) (m .marks)
 affected all (Sweep first count) payload m = stored (swept all (m .marks) first count (m .memory)) (m .marks)
 affected all (Protect group value) payload m = stored (m .memory) (mark value (m .marks) group)
+affected all ForceErase payload m = stored (replicate (length (m .memory)) 0) (replicate (length (m .marks)) 0)

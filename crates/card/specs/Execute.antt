@@ -6,12 +6,13 @@ use Prim.Native.Nat.{ℕ, _+_, _-_, _/_, _%_, _^_}
 use lib.Dec.{eqb, leb, ltb}
 use Rattle.card.specs.declared.Source.{Source}
 use Rattle.card.specs.declared.Source.the-variants.{Blocks, WriteProtect, WrittenBlocks}
+use Rattle.card.specs.declared.Sink.{Sink}
 use Rattle.card.specs.declared.State.{State}
 use Rattle.card.specs.declared.State.the-variants.{Idle, Ready, Data, Rcv, Ina}
 use Rattle.card.specs.declared.EraseMark.the-variants.{Unset, At}
 use Rattle.card.specs.declared.Core.{Core}
 use Rattle.card.specs.declared.command.Command.{Command}
-use Rattle.card.specs.declared.command.Command.the-variants.{GoIdleState, AllSendCid, SendRelativeAddr, SelectCard, DeselectCard, SendIfCond, SendCsd, SendCid, StopTransmission, SendStatus, AppCmd, GoInactiveState, SetBlocklen, ReadSingleBlock, ReadMultipleBlock, SendWriteProt, WriteBlock, WriteMultipleBlock, SetWriteProt, ClrWriteProt, Erase, EraseWrBlkStart, EraseWrBlkEnd, SdStatus, SendNumWrBlocks, SendScr, SetWrBlkEraseCount, SetClrCardDetect, SdSendOpCond, Unknown}
+use Rattle.card.specs.declared.command.Command.the-variants.{GoIdleState, AllSendCid, SendRelativeAddr, SelectCard, DeselectCard, SendIfCond, SendCsd, SendCid, StopTransmission, SendStatus, AppCmd, GoInactiveState, SetBlocklen, ReadSingleBlock, ReadMultipleBlock, SendWriteProt, WriteBlock, WriteMultipleBlock, LockUnlock, SetWriteProt, ClrWriteProt, Erase, EraseWrBlkStart, EraseWrBlkEnd, SdStatus, SendNumWrBlocks, SendScr, SetWrBlkEraseCount, SetClrCardDetect, SdSendOpCond, Unknown}
 use Rattle.card.specs.declared.done.Response.{Response}
 use Rattle.card.specs.declared.done.Response.the-variants.{Nothing, R1, R6, Cid, Csd, R3, R7}
 use Rattle.card.specs.declared.done.Effect as Effect
@@ -57,6 +58,7 @@ reset c = record {
   erase = noErase;
   length = BLOCK;
   written = 0;
+  locked = c .locked;
   marks = c .marks;
 }
 
@@ -166,6 +168,7 @@ runAt ReadMultipleBlock c argument a = readBlocks ReadMultipleBlock c true a
 runAt SendWriteProt c argument a = checked c (addressChecks (capacity (c .settings)) a) (ran (opening SendWriteProt c (Data (WriteProtect a))) R1)
 runAt WriteBlock c argument a = writeBlocks WriteBlock c false a
 runAt WriteMultipleBlock c argument a = writeBlocks WriteMultipleBlock c true a
+runAt LockUnlock c argument a = ran (opening LockUnlock c (Rcv Sink.LockUnlock)) R1
 runAt SetWriteProt c argument a = setMark SetWriteProt c true a
 runAt ClrWriteProt c argument a = setMark ClrWriteProt c false a
 runAt Erase c argument a = erase c

@@ -1,6 +1,6 @@
 -- The frame rules (01, "Frames"), in order, in two parts: which command a frame asks for and what it does, in either bus mode; and
 -- what silence, response and error show in SD mode.
-use mathlib.Core.Bool.{Bool, true, false, cond}
+use mathlib.Core.Bool.{Bool, true, false, cond, _&&_}
 use mathlib.Core.List.{List, [], _∷_}
 use Prim.Native.Nat.{ℕ}
 use lib.Dec.{eqb}
@@ -26,7 +26,7 @@ use Rattle.card.specs.Settings.{cidBytes, csdBytes}
 use Rattle.card.specs.Record.{withKept, withApp}
 use Rattle.card.specs.State.{number, ina}
 use Rattle.card.specs.Status.{noBits, withoutIllegal, ILLEGAL-COMMAND, status}
-use Rattle.card.specs.Table.{row, commandOf, own, misses, showsApp, setsApp, legal}
+use Rattle.card.specs.Table.{row, commandOf, own, misses, showsApp, setsApp, legal, accepts}
 use Rattle.card.specs.Execute.{ran, raise, settled, run}
 
 -- ---- which command, allowed or not, and what it does
@@ -34,11 +34,11 @@ use Rattle.card.specs.Execute.{ran, raise, settled, run}
 abbrev pub judged : Verdict → Command → Done → Judged
 judged v k d = record { verdict = v; command = k; done = d }
 
--- not allowed here or not in the table; addressed to another RCA; or it runs
+-- not allowed here, not on a locked card, or not in the table; addressed to another RCA; or it runs
 unfoldable pub judge : Core → ℕ → ℕ → Judged
 judge c index argument =
     let k = commandOf (c .bus) index argument in
-    cond (legal k (c .bus .state))
+    cond (accepts k (c .locked) && legal k (c .bus .state))
     (cond (misses (row k .rca) (own (c .bus) argument)) (judged OtherCard k (ran c Response.Nothing))
     (judged Ran k (run k (settled k c) argument)))
     (judged NotAllowed k (ran c Response.Nothing))
@@ -73,9 +73,9 @@ quiet c f = record { core = c; flag = f; message = silence; effect = Effect.Noth
 
 -- ---- SD mode: a command that ran; state is the number of the state at reception
 
--- the status word that a response shows: the bits held before and the command's own
+-- the status word that a response shows: the bits held before and the command's own, and the lock
 abbrev pub wordOf : Command → ℕ → Done → ℕ
-wordOf k state d = status (d .core .kept) state (showsApp (row k .kind))
+wordOf k state d = status (d .core .kept) (d .core .locked) state (showsApp (row k .kind))
 
 -- the message of a response
 unfoldable pub messageOf : Command → ℕ → Done → Response → Message

@@ -10,16 +10,20 @@ use Rattle.codec.specs.Answer.{Outcome, done, refused}
 use Rattle.wire_frame.specs.Damage.{DamagedFrame}
 use Rattle.wire_packet.specs.Damage.{DamagedBlock}
 use Rattle.card.specs.declared.Settings.{Settings}
-use Rattle.card.specs.Settings.{capacity, allowed}
-use Rattle.card.specs.Soundness.{unsound}
+use Rattle.card.specs.declared.Password.{Password}
+use Rattle.card.specs.declared.State.the-variants.{Idle}
+use Rattle.card.specs.Settings.{capacity}
+use Rattle.card.specs.Record.{withState}
+use Rattle.card.specs.Soundness.{unsound, badPassword}
 use Rattle.card.specs.Data.{ACCEPTED}
-use Rattle.card.specs.Step.{Call, powerUp, commandFrame, blockIn, takeBlock, busyOver, World, Reply, silent, sent, answered, over, ROOM, blockSize, step, next, start}
+use Rattle.card.specs.Step.{Call, powerUp, commandFrame, blockIn, takeBlock, busyOver, World, Reply, silent, sent, answered, over, ROOM, blockSize, permitted, step, next, start}
 
 -- ---- what every call keeps
 
 -- a sound record, and memory of block count × 512 bytes
 pub record Sound (w : World) : Type 0 where
   pub core : unsound (w .card .core) ≡ false
+  pub password : badPassword (w .card .core .locked) (w .card .password .length) ≡ false
   pub memory : length (w .memory) ≡ capacity (w .card .core .settings)
 
 abbrev pub KeepsSound : Type 0
@@ -28,8 +32,9 @@ KeepsSound = (w : World) (c : Call) → Sound w → Sound (next w c)
 -- a history starts with the record of its power-up and any memory of block count × 512 bytes
 pub record Start (w : World) : Type 0 where
   pub settings : Settings
-  pub permitted : allowed settings ≡ true
-  pub powered : w .card ≡ start settings
+  pub password : Password
+  pub allowed : permitted settings password ≡ true
+  pub powered : w .card ≡ start settings password
   pub memory : length (w .memory) ≡ capacity settings
 
 -- the record of a power-up is sound
@@ -46,6 +51,7 @@ pub data Entry : Type 0 where
 -- the same card and memory, but for COM_CRC_ERROR
 pub record SameWorld (a b : World) : Type 0 where
   pub core : a .card .core ≡ b .card .core
+  pub password : a .card .password ≡ b .card .password
   pub memory : a .memory ≡ b .memory
 
 -- the first byte tells the kinds of six bytes apart: 3Fh is R3, 8 is R7, 3 is R6, any other is R1 with its index
@@ -77,19 +83,22 @@ hidden (commandFrame frame before) (done silent) out = out
 hidden (commandFrame frame before) (done (answered n)) out = out
 hidden (commandFrame frame before) (done over) out = out
 hidden (commandFrame frame before) (refused k) out = out
-hidden (powerUp s) a out = out
+hidden (powerUp s p) a out = out
 hidden (blockIn s) a out = out
 hidden (takeBlock before) a out = out
 hidden busyOver a out = out
 
--- a damaged data block is never stored: memory stays, and the answer is not 010
+-- a damaged data block is never stored, and 42's not acted on: memory and password stay, and of the record all but the state, so
+-- marks, lock and every kept bit; and the answer is not 010
 pub record NotStored (w : World) (c : Call) : Type 0 where
   pub memory : next w c .memory ≡ w .memory
+  pub password : next w c .card .password ≡ w .card .password
+  pub core : withState (next w c .card .core) Idle ≡ withState (w .card .core) Idle
   pub answer : step w c .answer ≡ done (answered ACCEPTED) → ⊥
 
 abbrev pub Unharmed : World → Call → Type 0
 Unharmed w (blockIn s) = DamagedBlock (blockSize (w .card .core)) s → NotStored w (blockIn s)
-Unharmed w (powerUp s) = Unit {0}
+Unharmed w (powerUp s p) = Unit {0}
 Unharmed w (commandFrame frame out) = Unit {0}
 Unharmed w (takeBlock out) = Unit {0}
 Unharmed w busyOver = Unit {0}

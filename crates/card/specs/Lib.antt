@@ -9,10 +9,14 @@ pub mod Checks
 pub mod Execute
 pub mod Effects
 pub mod Frame
-pub mod Data
 pub mod Soundness
+pub mod Lock
+pub mod Data
 pub mod Step
 pub mod History
 pub mod Registers
 pub mod SendStatus
+pub mod Locked
+pub mod Reading
+pub mod BenchLock
 pub mod Bench

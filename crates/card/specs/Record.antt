@@ -2,6 +2,7 @@
 use mathlib.Core.Bool.{Bool, true, false}
 use mathlib.Core.List.{List}
 use Prim.Native.Nat.{ℕ}
+use Rattle.card.specs.declared.Settings.{Settings}
 use Rattle.card.specs.declared.State.{State}
 use Rattle.card.specs.declared.EraseMark.{EraseMark}
 use Rattle.card.specs.declared.EraseMark.the-variants.{Unset, At}
@@ -9,6 +10,7 @@ use Rattle.card.specs.declared.Bus.{Bus}
 use Rattle.card.specs.declared.EraseMarks.{EraseMarks}
 use Rattle.card.specs.declared.Kept.{Kept}
 use Rattle.card.specs.declared.Core.{Core}
+use Rattle.card.specs.Settings.{csdOf}
 
 abbrev pub withBus : Core → Bus → Core
 withBus c b = record {
@@ -19,6 +21,7 @@ withBus c b = record {
   erase = c .erase;
   length = c .length;
   written = c .written;
+  locked = c .locked;
   marks = c .marks;
 }
 
@@ -31,6 +34,7 @@ withKept c k = record {
   erase = c .erase;
   length = c .length;
   written = c .written;
+  locked = c .locked;
   marks = c .marks;
 }
 
@@ -43,6 +47,7 @@ withErase c e = record {
   erase = e;
   length = c .length;
   written = c .written;
+  locked = c .locked;
   marks = c .marks;
 }
 
@@ -55,6 +60,7 @@ withLength c n = record {
   erase = c .erase;
   length = n;
   written = c .written;
+  locked = c .locked;
   marks = c .marks;
 }
 
@@ -67,6 +73,7 @@ withWritten c n = record {
   erase = c .erase;
   length = c .length;
   written = n;
+  locked = c .locked;
   marks = c .marks;
 }
 
@@ -79,7 +86,35 @@ withMarks c m = record {
   erase = c .erase;
   length = c .length;
   written = c .written;
+  locked = c .locked;
   marks = m;
+}
+
+abbrev pub withLocked : Core → Bool → Core
+withLocked c l = record {
+  settings = c .settings;
+  csd = c .csd;
+  bus = c .bus;
+  kept = c .kept;
+  erase = c .erase;
+  length = c .length;
+  written = c .written;
+  locked = l;
+  marks = c .marks;
+}
+
+-- the CSD is the settings in the standard's form
+abbrev pub withSettings : Core → Settings → Core
+withSettings c s = record {
+  settings = s;
+  csd = csdOf s;
+  bus = c .bus;
+  kept = c .kept;
+  erase = c .erase;
+  length = c .length;
+  written = c .written;
+  locked = c .locked;
+  marks = c .marks;
 }
 
 abbrev pub withState : Core → State → Core

@@ -32,14 +32,14 @@ pub record SendsStatus (w : World) (frame out : List ℕ) : Type 0 where
 -- its R1: the status bits that were kept, ERASE_RESET among them, and none of its own
 abbrev pub statusR1 : World → List ℕ
 statusR1 w =
-    let word = status (w .card .core .kept) (number (w .card .core .bus .state)) false in
+    let word = status (w .card .core .kept) (w .card .core .locked) (number (w .card .core .bus .state)) false in
     image (Wire.r1 13) (shown (w .card .line .«com_crc_error») word ∷ [])
 
 -- what it shows it clears; the erase marks, the rest of the record and the memory stay
 pub record StatusSent (w : World) (before : List ℕ) (r : Result) : Type 0 where
   pub answer : r .answer ≡ done (sent 6)
   pub out : r .out ≡ statusR1 w ++ drop 6 before
-  pub world : r .world ≡ world (record { core = withKept (w .card .core) noBits; line = line false }) (w .memory)
+  pub world : r .world ≡ world (record { core = withKept (w .card .core) noBits; password = w .card .password; line = line false }) (w .memory)
 
 abbrev pub SendStatusShows : Type 0
 SendStatusShows = (w : World) (frame out : List ℕ) → SendsStatus w frame out → StatusSent w out (step w (commandFrame frame out))
@@ -54,12 +54,13 @@ pub data Entry : Type 0 where
 -- the same card and memory, but for the status bits that are kept
 pub record SameButStatus (a b : World) : Type 0 where
   pub core : withKept (a .card .core) noBits ≡ withKept (b .card .core) noBits
+  pub password : a .card .password ≡ b .card .password
   pub memory : a .memory ≡ b .memory
 
 -- the buffer of a take; responses show the status
 abbrev pub blockOf : Call → List ℕ → List ℕ
 blockOf (takeBlock before) out = out
-blockOf (powerUp s) out = []
+blockOf (powerUp s p) out = []
 blockOf (commandFrame frame before) out = []
 blockOf (blockIn s) out = []
 blockOf busyOver out = []

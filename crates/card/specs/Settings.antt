@@ -21,7 +21,7 @@ BLOCK = 512
 abbrev pub GROUP : ℕ
 GROUP = 32
 
--- limits of the block count and of the start polls
+-- limits of the block count, of the start polls, and of the password's length
 abbrev pub LEAST : ℕ
 LEAST = 4
 
@@ -30,6 +30,9 @@ MOST = 65536
 
 abbrev pub POLLS : ℕ
 POLLS = 15
+
+abbrev pub PASSWORD : ℕ
+PASSWORD = 16
 
 -- the first byte address behind the card
 abbrev pub capacity : Settings → ℕ
@@ -69,7 +72,7 @@ csdOf s = record {
   taac = 0x26;
   nsac = 0;
   «tran_speed» = 0x32;
-  ccc = 0x175;
+  ccc = 0x1F5;
   «read_bl_len» = 9;
   «read_bl_partial» = true;
   «write_blk_misalign» = false;

@@ -7,10 +7,12 @@ use lib.ListN.{getD, drop}
 use Rattle.reg_csd.specs.Csd.{csdValues}
 use Rattle.card.specs.declared.Open.{Open}
 use Rattle.card.specs.declared.Open.the-variants.{Nothing, Read, Write, Busy}
+use Rattle.card.specs.declared.Sink.{Sink}
+use Rattle.card.specs.declared.Sink.the-variants.{Single, Multiple, LockUnlock}
 use Rattle.card.specs.declared.EraseMark.{EraseMark}
 use Rattle.card.specs.declared.EraseMark.the-variants.{Unset, At}
 use Rattle.card.specs.declared.Core.{Core}
-use Rattle.card.specs.Settings.{BLOCK, capacity, groups, allowed, csdOf}
+use Rattle.card.specs.Settings.{BLOCK, PASSWORD, capacity, groups, allowed, csdOf}
 use Rattle.card.specs.State.{ready, ident, stby, ina, number, openOf, transferAddress, sinkAddress}
 use Rattle.card.specs.Checks.{outside, offBlock}
 
@@ -32,11 +34,16 @@ offWrite (Read s) = false
 offWrite (Write s) = offBlock (sinkAddress s)
 offWrite (Busy s) = false
 
--- the blocks below a write transfer's address, or n elsewhere: the most that A22 can count
+-- the blocks below a write transfer's address, or n elsewhere: the most that A22 can count; 42's has no address
+abbrev pub sinkMost : Sink → ℕ → ℕ
+sinkMost (Single address held) n = address / BLOCK
+sinkMost (Multiple address held) n = address / BLOCK
+sinkMost LockUnlock n = n
+
 abbrev pub writtenMost : Open → ℕ → ℕ
 writtenMost Nothing n = n
 writtenMost (Read s) n = n
-writtenMost (Write s) n = sinkAddress s / BLOCK
+writtenMost (Write s) n = sinkMost s n
 writtenMost (Busy s) n = n
 
 abbrev pub markOutside : ℕ → EraseMark → Bool
@@ -83,3 +90,7 @@ anyOf (b ∷ bs) = b || anyOf bs
 
 unfoldable pub unsound : Core → Bool
 unsound c = anyOf (unsoundTests c)
+
+-- of the password: locked with none; a length over 16
+unfoldable pub badPassword : Bool → ℕ → Bool
+badPassword locked length = (locked && eqb length 0) || ltb PASSWORD length

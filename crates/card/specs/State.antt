@@ -5,7 +5,7 @@ use lib.Dec.{eqb}
 use Rattle.card.specs.declared.Source.{Source}
 use Rattle.card.specs.declared.Source.the-variants.{Blocks, WriteProtect, SdStatus, WrittenBlocks, Scr}
 use Rattle.card.specs.declared.Sink.{Sink}
-use Rattle.card.specs.declared.Sink.the-variants.{Single, Multiple}
+use Rattle.card.specs.declared.Sink.the-variants.{Single, Multiple, LockUnlock}
 use Rattle.card.specs.declared.State.{State}
 use Rattle.card.specs.declared.State.the-variants.{Idle, Ready, Ident, Stby, Tran, Data, Rcv, Prg, Dis, Ina}
 use Rattle.card.specs.declared.Open.{Open}
@@ -97,7 +97,19 @@ busy (Read s) = false
 busy (Write s) = false
 busy (Busy s) = true
 
--- ---- the transfer's address; A13, A22 and A51 have none
+-- the block of 42 is awaited
+abbrev pub sinkLocks : Sink → Bool
+sinkLocks (Single address held) = false
+sinkLocks (Multiple address held) = false
+sinkLocks LockUnlock = true
+
+abbrev pub locking : Open → Bool
+locking Nothing = false
+locking (Read s) = false
+locking (Write s) = sinkLocks s
+locking (Busy s) = false
+
+-- ---- the transfer's address; A13, A22, A51 and 42 have none
 
 abbrev pub sourceAddress : Source → ℕ
 sourceAddress (Blocks multiple address held) = address
@@ -109,6 +121,7 @@ sourceAddress Scr = 0
 abbrev pub sinkAddress : Sink → ℕ
 sinkAddress (Single address held) = address
 sinkAddress (Multiple address held) = address
+sinkAddress LockUnlock = 0
 
 abbrev pub transferAddress : Open → ℕ
 transferAddress Nothing = 0

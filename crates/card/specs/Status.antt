@@ -26,6 +26,12 @@ ERASE-PARAM = 27
 abbrev pub WP-VIOLATION : ℕ
 WP-VIOLATION = 26
 
+abbrev pub CARD-IS-LOCKED : ℕ
+CARD-IS-LOCKED = 25
+
+abbrev pub LOCK-UNLOCK-FAILED : ℕ
+LOCK-UNLOCK-FAILED = 24
+
 abbrev pub COM-CRC-ERROR : ℕ
 COM-CRC-ERROR = 23
 
@@ -57,6 +63,7 @@ only n = record {
   «erase_seq_error» = eqb n ERASE-SEQ-ERROR;
   «erase_param» = eqb n ERASE-PARAM;
   «wp_violation» = eqb n WP-VIOLATION;
+  «lock_unlock_failed» = eqb n LOCK-UNLOCK-FAILED;
   «illegal_command» = eqb n ILLEGAL-COMMAND;
   «wp_erase_skip» = eqb n WP-ERASE-SKIP;
   «erase_reset» = eqb n ERASE-RESET;
@@ -70,6 +77,7 @@ noBits = record {
   «erase_seq_error» = false;
   «erase_param» = false;
   «wp_violation» = false;
+  «lock_unlock_failed» = false;
   «illegal_command» = false;
   «wp_erase_skip» = false;
   «erase_reset» = false;
@@ -84,6 +92,7 @@ join a b = record {
   «erase_seq_error» = a .«erase_seq_error» || b .«erase_seq_error»;
   «erase_param» = a .«erase_param» || b .«erase_param»;
   «wp_violation» = a .«wp_violation» || b .«wp_violation»;
+  «lock_unlock_failed» = a .«lock_unlock_failed» || b .«lock_unlock_failed»;
   «illegal_command» = a .«illegal_command» || b .«illegal_command»;
   «wp_erase_skip» = a .«wp_erase_skip» || b .«wp_erase_skip»;
   «erase_reset» = a .«erase_reset» || b .«erase_reset»;
@@ -98,6 +107,7 @@ withoutIllegal k = record {
   «erase_seq_error» = k .«erase_seq_error»;
   «erase_param» = k .«erase_param»;
   «wp_violation» = k .«wp_violation»;
+  «lock_unlock_failed» = k .«lock_unlock_failed»;
   «illegal_command» = false;
   «wp_erase_skip» = k .«wp_erase_skip»;
   «erase_reset» = k .«erase_reset»;
@@ -109,15 +119,17 @@ withoutIllegal k = record {
 abbrev pub at : ℕ → Bool → ℕ
 at n b = digit b * 2 ^ n
 
--- the status without COM_CRC_ERROR: kept bits, number of the state at reception, ready, and bit 5 for 55 and application commands
-unfoldable pub status : Kept → ℕ → Bool → ℕ
-status k state app =
+-- the status without COM_CRC_ERROR: kept bits, the lock, number of the state at reception, ready, and bit 5 for 55 and application commands
+unfoldable pub status : Kept → Bool → ℕ → Bool → ℕ
+status k locked state app =
     at OUT-OF-RANGE (k .«out_of_range»)
     + at ADDRESS-ERROR (k .«address_error»)
     + at BLOCK-LEN-ERROR (k .«block_len_error»)
     + at ERASE-SEQ-ERROR (k .«erase_seq_error»)
     + at ERASE-PARAM (k .«erase_param»)
     + at WP-VIOLATION (k .«wp_violation»)
+    + at CARD-IS-LOCKED locked
+    + at LOCK-UNLOCK-FAILED (k .«lock_unlock_failed»)
     + at ILLEGAL-COMMAND (k .«illegal_command»)
     + at WP-ERASE-SKIP (k .«wp_erase_skip»)
     + at ERASE-RESET (k .«erase_reset»)

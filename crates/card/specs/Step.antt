@@ -1,16 +1,16 @@
 -- The five calls: refusals first, in 01's order, and then what the call does. This is the step that histories run.
 use mathlib.Core.Path.{_≡_}
-use mathlib.Core.Bool.{Bool, true, false, cond, not}
+use mathlib.Core.Bool.{Bool, true, false, cond, not, _&&_, _||_}
 use mathlib.Core.List.{List, [], _∷_, _++_}
 use mathlib.Core.Option.{Option, none, some}
 use Prim.Native.Nat.{ℕ, _+_}
-use lib.Dec.{eqb, ltb}
+use lib.Dec.{eqb, leb, ltb}
 use lib.ListN.{length, drop, replicate}
 use Rattle.codec.specs.Answer.{Outcome, done, refused}
 use Rattle.codec.specs.Format.{image}
 use Rattle.wire_response.specs.Response as Wire
 use Rattle.wire_response.specs.Status.{shortStatus}
-use Rattle.wire_packet.specs.Packet.{packet, CHECK}
+use Rattle.wire_packet.specs.Packet.{packet, payloadOf, CHECK}
 use Rattle.card.specs.declared.answer.Answer.{Answer}
 use Rattle.card.specs.declared.answer.Answer.the-variants.{Silence, Sent, Accepted, Rejected, Over, Refused}
 use Rattle.card.specs.declared.answer.Rows.{Rows}
@@ -18,25 +18,28 @@ use Rattle.card.specs.declared.Settings.{Settings}
 use Rattle.card.specs.declared.State.the-variants.{Idle}
 use Rattle.card.specs.declared.Open.{Open}
 use Rattle.card.specs.declared.Core.{Core}
+use Rattle.card.specs.declared.Password.{Password}
 use Rattle.card.specs.declared.Line.{Line}
 use Rattle.card.specs.declared.Card.{Card}
 use Rattle.card.specs.declared.done.Flag.{Flag}
 use Rattle.card.specs.declared.done.Flag.the-variants.{Keep, Set, Clear}
-use Rattle.card.specs.Settings.{BLOCK, capacity, allowed, csdOf}
+use Rattle.card.specs.Settings.{BLOCK, PASSWORD, capacity, allowed, csdOf}
 use Rattle.card.specs.Record.{noErase, withMarks}
-use Rattle.card.specs.State.{openOf, reading, writing, busy}
+use Rattle.card.specs.State.{openOf, reading, writing, busy, locking}
 use Rattle.card.specs.Status.{noBits, shown}
-use Rattle.card.specs.Soundness.{unsound}
+use Rattle.card.specs.Soundness.{unsound, badPassword}
+use Rattle.card.specs.Lock.{passwordOf, noPassword, content, isSet, operation, succeeds}
 use Rattle.card.specs.Protect.{whole}
 use Rattle.card.specs.Execute.{reset}
 use Rattle.card.specs.Effects.{Stored, stored, affected}
 use Rattle.card.specs.Frame.{Message, silence, r1, r6, plain, block, token, finished, Turn, receive}
-use Rattle.card.specs.Data.{takeFrom, blockInto, overFrom, ACCEPTED, REJECTED}
+use Rattle.card.specs.Data.{takeFrom, blockInto, passwordInto, overFrom, ACCEPTED, REJECTED}
 
 -- ---- calls, and what stays between them
 
 pub data Call : Type 0 where
-  powerUp : Settings → Call
+  -- the settings and the password
+  powerUp : Settings → Password → Call
   -- the frame and the output buffer
   commandFrame : List ℕ → List ℕ → Call
   -- the block
@@ -113,14 +116,14 @@ refuse w out k = record { answer = refused k; world = w; out = out }
 abbrev pub after : World → Turn → Stored
 after w t = affected (whole (w .card .core .settings)) (t .effect) (t .payload) (stored (w .memory) (w .card .core .marks))
 
--- a call that was not refused: messages go out as a prefix of the buffer
-unfoldable pub show : World → List ℕ → Turn → Result
-show w out t =
+-- a call that was not refused, with the password that it leaves: messages go out as a prefix of the buffer
+unfoldable pub show : World → Password → List ℕ → Turn → Result
+show w p out t =
     let crc = w .card .line .«com_crc_error» in
     let s = wire crc (t .message) in
     record {
       answer = done (replyOf crc (t .message));
-      world = world (record { core = withMarks (t .core) (after w t .marks); line = flagged (t .flag) (w .card .line) }) (after w t .memory);
+      world = world (record { core = withMarks (t .core) (after w t .marks); password = p; line = flagged (t .flag) (w .card .line) }) (after w t .memory);
       out = s ++ drop (length s) out;
     }
 
@@ -144,7 +147,7 @@ abbrev pub FRAME-ROWS : List ℕ
 FRAME-ROWS = 1 ∷ 2 ∷ 3 ∷ 4 ∷ []
 
 abbrev pub BLOCK-ROWS : List ℕ
-BLOCK-ROWS = 1 ∷ 2 ∷ 3 ∷ 5 ∷ []
+BLOCK-ROWS = 2 ∷ 1 ∷ 3 ∷ 5 ∷ []
 
 abbrev pub TAKE-ROWS : List ℕ
 TAKE-ROWS = 2 ∷ 3 ∷ 4 ∷ 5 ∷ []
@@ -164,7 +167,7 @@ otherSize memory s = not (eqb (length memory) (capacity s))
 abbrev pub rows : World → Bool → Bool → Bool → Rows
 rows w size buffer closed = record {
   size = size;
-  unsound = unsound (w .card .core);
+  unsound = unsound (w .card .core) || badPassword (w .card .core .locked) (w .card .password .length);
   memory = otherSize (w .memory) (w .card .core .settings);
   buffer = buffer;
   closed = closed;
@@ -180,9 +183,9 @@ FRAME = 6
 abbrev pub ROOM : ℕ
 ROOM = 17
 
--- an incoming block, and the room for any block that is taken
-abbrev pub blockSize : Core → ℕ
-blockSize c = BLOCK + CHECK
+-- an incoming block, which for 42 has the set length, and the room for any block that is taken
+unfoldable pub blockSize : Core → ℕ
+blockSize c = cond (locking (openOf (c .bus .state))) (c .length) BLOCK + CHECK
 
 abbrev pub blockRoom : Core → ℕ
 blockRoom c = BLOCK + CHECK
@@ -190,8 +193,8 @@ blockRoom c = BLOCK + CHECK
 -- ---- the five calls
 
 -- the record of a power-up: as after command 0, last published RCA 0, all marks clear
-unfoldable pub fresh : Settings → Core
-fresh s = reset (record {
+unfoldable pub fresh : Settings → Bool → Core
+fresh s locked = reset (record {
   settings = s;
   csd = csdOf s;
   bus = record { state = Idle; rca = 0; published = 0; polls = s .polls; app = false };
@@ -199,11 +202,15 @@ fresh s = reset (record {
   erase = noErase;
   length = BLOCK;
   written = 0;
+  locked = locked;
   marks = replicate 256 0;
 })
 
-unfoldable pub start : Settings → Card
-start s = record { core = fresh s; line = line false }
+-- a card with a password starts locked
+unfoldable pub start : Settings → Password → Card
+start s p =
+    let kept = passwordOf (content p) in
+    record { core = fresh s (isSet kept); password = kept; line = line false }
 
 -- before the first power-up there is a card of no blocks: its record is unsound, so every other call is refused
 abbrev pub NO-CARD : Settings
@@ -216,21 +223,25 @@ NO-CARD = record {
 }
 
 abbrev pub unpowered : Card
-unpowered = start NO-CARD
+unpowered = start NO-CARD noPassword
 
-abbrev pub powerRefusal : World → Settings → Option ℕ
-powerRefusal w s =
+-- the settings, and a password that is not too long
+abbrev pub permitted : Settings → Password → Bool
+permitted s p = allowed s && leb (p .length) PASSWORD
+
+abbrev pub powerRefusal : World → Settings → Password → Option ℕ
+powerRefusal w s p =
     refusal POWER-ROWS
-    (record { size = false; unsound = false; memory = otherSize (w .memory) s; buffer = false; closed = false; settings = not (allowed s) })
+    (record { size = false; unsound = false; memory = otherSize (w .memory) s; buffer = false; closed = false; settings = not (permitted s p) })
 
-unfoldable pub poweredUp : World → Settings → Result
-poweredUp w s = unless (powerRefusal w s) w [] (record { answer = done over; world = world (start s) (w .memory); out = [] })
+unfoldable pub poweredUp : World → Settings → Password → Result
+poweredUp w s p = unless (powerRefusal w s p) w [] (record { answer = done over; world = world (start s p) (w .memory); out = [] })
 
 abbrev pub frameRefusal : World → List ℕ → List ℕ → Option ℕ
 frameRefusal w frame out = refusal FRAME-ROWS (rows w (not (eqb (length frame) FRAME)) (ltb (length out) ROOM) false)
 
 unfoldable pub framed : World → List ℕ → List ℕ → Result
-framed w frame out = unless (frameRefusal w frame out) w out (show w out (receive (w .card .core) frame))
+framed w frame out = unless (frameRefusal w frame out) w out (show w (w .card .password) out (receive (w .card .core) frame))
 
 -- what the state of the card has open
 abbrev pub opened : World → Open
@@ -239,23 +250,30 @@ opened w = openOf (w .card .core .bus .state)
 abbrev pub blockRefusal : World → List ℕ → Option ℕ
 blockRefusal w s = refusal BLOCK-ROWS (rows w (not (eqb (length s) (blockSize (w .card .core)))) false (not (writing (opened w))))
 
+-- whether the operation of 42's block succeeds: all that the core is told of the password
+abbrev pub success : World → List ℕ → Bool
+success w s =
+    succeeds (operation (payloadOf s)) (w .card .core .locked) (w .card .core .settings .permanent) (w .card .password) (payloadOf s)
+
 unfoldable pub given : World → List ℕ → Result
-given w s = unless (blockRefusal w s) w [] (show w [] (blockInto (opened w) (w .card .core) s))
+given w s =
+    unless (blockRefusal w s) w []
+    (show w (passwordInto (opened w) (success w s) (w .card .password) s) [] (blockInto (opened w) (success w s) (w .card .core) s))
 
 abbrev pub takeRefusal : World → List ℕ → Option ℕ
 takeRefusal w out = refusal TAKE-ROWS (rows w false (ltb (length out) (blockRoom (w .card .core))) (not (reading (opened w))))
 
 unfoldable pub taken : World → List ℕ → Result
-taken w out = unless (takeRefusal w out) w out (show w out (takeFrom (opened w) (w .card .core) (w .memory)))
+taken w out = unless (takeRefusal w out) w out (show w (w .card .password) out (takeFrom (opened w) (w .card .core) (w .memory)))
 
 abbrev pub overRefusal : World → Option ℕ
 overRefusal w = refusal OVER-ROWS (rows w false false (not (busy (opened w))))
 
 unfoldable pub overed : World → Result
-overed w = unless (overRefusal w) w [] (show w [] (overFrom (opened w) (w .card .core)))
+overed w = unless (overRefusal w) w [] (show w (w .card .password) [] (overFrom (opened w) (w .card .core)))
 
 unfoldable pub step : World → Call → Result
-step w (powerUp s) = poweredUp w s
+step w (powerUp s p) = poweredUp w s p
 step w (commandFrame frame out) = framed w frame out
 step w (blockIn s) = given w s
 step w (takeBlock out) = taken w out

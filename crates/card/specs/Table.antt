@@ -5,7 +5,7 @@ use Prim.Native.Nat.{ℕ, _/_, _^_}
 use lib.Dec.{eqb}
 use Rattle.card.specs.declared.State.{State}
 use Rattle.card.specs.declared.command.Command.{Command}
-use Rattle.card.specs.declared.command.Command.the-variants.{GoIdleState, AllSendCid, SendRelativeAddr, SelectCard, DeselectCard, SendIfCond, SendCsd, SendCid, StopTransmission, SendStatus, AppCmd, GoInactiveState, SetBlocklen, ReadSingleBlock, ReadMultipleBlock, SendWriteProt, WriteBlock, WriteMultipleBlock, SetWriteProt, ClrWriteProt, Erase, EraseWrBlkStart, EraseWrBlkEnd, SdStatus, SendNumWrBlocks, SendScr, SetWrBlkEraseCount, SetClrCardDetect, SdSendOpCond, Unknown}
+use Rattle.card.specs.declared.command.Command.the-variants.{GoIdleState, AllSendCid, SendRelativeAddr, SelectCard, DeselectCard, SendIfCond, SendCsd, SendCid, StopTransmission, SendStatus, AppCmd, GoInactiveState, SetBlocklen, ReadSingleBlock, ReadMultipleBlock, SendWriteProt, WriteBlock, WriteMultipleBlock, LockUnlock, SetWriteProt, ClrWriteProt, Erase, EraseWrBlkStart, EraseWrBlkEnd, SdStatus, SendNumWrBlocks, SendScr, SetWrBlkEraseCount, SetClrCardDetect, SdSendOpCond, Unknown}
 use Rattle.card.specs.declared.command.Kind as Kind
 use Rattle.card.specs.declared.command.Kind.{Kind}
 use Rattle.card.specs.declared.command.Kind.the-variants.{Plain, Application}
@@ -44,11 +44,13 @@ pub record Row : Type 0 where
   pub rca : Rca
   -- pending erase marks stay: 0, 32, 33 and 38 see to them themselves, 13 may come between (02, order 1); the other commands drop them
   pub keepsErase : Bool
+  -- a locked card accepts it (02, order 4)
+  pub whenLocked : Bool
   -- from which state to which
   pub moves : List Move
 
-abbrev pub columns : ℕ → Kind → Rca → Bool → List Move → Row
-columns i k r e ms = record { index = i; kind = k; rca = r; keepsErase = e; moves = ms }
+abbrev pub columns : ℕ → Kind → Rca → Bool → Bool → List Move → Row
+columns i k r e l ms = record { index = i; kind = k; rca = r; keepsErase = e; whenLocked = l; moves = ms }
 
 abbrev pub KEEPS : Bool
 KEEPS = true
@@ -56,45 +58,52 @@ KEEPS = true
 abbrev pub DROPS : Bool
 DROPS = false
 
+abbrev pub ALWAYS : Bool
+ALWAYS = true
+
+abbrev pub UNLOCKED : Bool
+UNLOCKED = false
+
 unfoldable pub row : Command → Row
--- index, kind, RCA, erase marks, moves
-row GoIdleState = columns 0 Plain Unused KEEPS (each (idle ∷ ready ∷ ident ∷ stbyToDis) idle)
-row AllSendCid = columns 2 Plain Unused DROPS (ready ⟶ ident ∷ [])
-row SendRelativeAddr = columns 3 Plain Unused DROPS (each (ident ∷ stby ∷ []) stby)
-row SelectCard = columns 7 Plain Own DROPS (stby ⟶ tran ∷ dis ⟶ prg ∷ [])
-row DeselectCard = columns 7 Plain Other DROPS (each (stby ∷ tran ∷ «data» ∷ []) stby ++ (prg ⟶ dis ∷ []))
-row SendIfCond = columns 8 Plain Unused DROPS (stay (idle ∷ []))
-row SendCsd = columns 9 Plain Addressed DROPS (stay (stby ∷ []))
-row SendCid = columns 10 Plain Addressed DROPS (stay (stby ∷ []))
-row StopTransmission = columns 12 Plain Unused DROPS («data» ⟶ tran ∷ rcv ⟶ prg ∷ [])
-row SendStatus = columns 13 Plain Addressed KEEPS (stay stbyToDis)
-row AppCmd = columns 55 Kind.AppCmd Addressed DROPS (stay (idle ∷ stbyToDis))
-row GoInactiveState = columns 15 Plain Addressed DROPS (each stbyToDis ina)
-row SetBlocklen = columns 16 Plain Unused DROPS (stay (tran ∷ []))
-row ReadSingleBlock = columns 17 Plain Unused DROPS (tran ⟶ «data» ∷ [])
-row ReadMultipleBlock = columns 18 Plain Unused DROPS (tran ⟶ «data» ∷ [])
-row SendWriteProt = columns 30 Plain Unused DROPS (tran ⟶ «data» ∷ [])
-row WriteBlock = columns 24 Plain Unused DROPS (tran ⟶ rcv ∷ [])
-row WriteMultipleBlock = columns 25 Plain Unused DROPS (tran ⟶ rcv ∷ [])
-row SetWriteProt = columns 28 Plain Unused DROPS (tran ⟶ prg ∷ [])
-row ClrWriteProt = columns 29 Plain Unused DROPS (tran ⟶ prg ∷ [])
-row Erase = columns 38 Plain Unused KEEPS (tran ⟶ prg ∷ [])
-row EraseWrBlkStart = columns 32 Plain Unused KEEPS (stay (tran ∷ []))
-row EraseWrBlkEnd = columns 33 Plain Unused KEEPS (stay (tran ∷ []))
-row SdStatus = columns 13 Application Unused DROPS (tran ⟶ «data» ∷ [])
-row SendNumWrBlocks = columns 22 Application Unused DROPS (tran ⟶ «data» ∷ [])
-row SendScr = columns 51 Application Unused DROPS (tran ⟶ «data» ∷ [])
-row SetWrBlkEraseCount = columns 23 Application Unused DROPS (stay (tran ∷ []))
-row SetClrCardDetect = columns 42 Application Unused DROPS (stay (tran ∷ []))
-row SdSendOpCond = columns 41 Application Unused DROPS (stay (idle ∷ []))
-row Unknown = columns 64 Plain Unused DROPS []
+-- index, kind, RCA, erase marks, on which cards, moves
+row GoIdleState = columns 0 Plain Unused KEEPS ALWAYS (each (idle ∷ ready ∷ ident ∷ stbyToDis) idle)
+row AllSendCid = columns 2 Plain Unused DROPS ALWAYS (ready ⟶ ident ∷ [])
+row SendRelativeAddr = columns 3 Plain Unused DROPS ALWAYS (each (ident ∷ stby ∷ []) stby)
+row SelectCard = columns 7 Plain Own DROPS ALWAYS (stby ⟶ tran ∷ dis ⟶ prg ∷ [])
+row DeselectCard = columns 7 Plain Other DROPS ALWAYS (each (stby ∷ tran ∷ «data» ∷ []) stby ++ (prg ⟶ dis ∷ []))
+row SendIfCond = columns 8 Plain Unused DROPS ALWAYS (stay (idle ∷ []))
+row SendCsd = columns 9 Plain Addressed DROPS ALWAYS (stay (stby ∷ []))
+row SendCid = columns 10 Plain Addressed DROPS ALWAYS (stay (stby ∷ []))
+row StopTransmission = columns 12 Plain Unused DROPS ALWAYS («data» ⟶ tran ∷ rcv ⟶ prg ∷ [])
+row SendStatus = columns 13 Plain Addressed KEEPS ALWAYS (stay stbyToDis)
+row AppCmd = columns 55 Kind.AppCmd Addressed DROPS ALWAYS (stay (idle ∷ stbyToDis))
+row GoInactiveState = columns 15 Plain Addressed DROPS ALWAYS (each stbyToDis ina)
+row SetBlocklen = columns 16 Plain Unused DROPS ALWAYS (stay (tran ∷ []))
+row ReadSingleBlock = columns 17 Plain Unused DROPS UNLOCKED (tran ⟶ «data» ∷ [])
+row ReadMultipleBlock = columns 18 Plain Unused DROPS UNLOCKED (tran ⟶ «data» ∷ [])
+row SendWriteProt = columns 30 Plain Unused DROPS UNLOCKED (tran ⟶ «data» ∷ [])
+row WriteBlock = columns 24 Plain Unused DROPS UNLOCKED (tran ⟶ rcv ∷ [])
+row WriteMultipleBlock = columns 25 Plain Unused DROPS UNLOCKED (tran ⟶ rcv ∷ [])
+row LockUnlock = columns 42 Plain Unused DROPS ALWAYS (tran ⟶ rcv ∷ [])
+row SetWriteProt = columns 28 Plain Unused DROPS UNLOCKED (tran ⟶ prg ∷ [])
+row ClrWriteProt = columns 29 Plain Unused DROPS UNLOCKED (tran ⟶ prg ∷ [])
+row Erase = columns 38 Plain Unused KEEPS UNLOCKED (tran ⟶ prg ∷ [])
+row EraseWrBlkStart = columns 32 Plain Unused KEEPS UNLOCKED (stay (tran ∷ []))
+row EraseWrBlkEnd = columns 33 Plain Unused KEEPS UNLOCKED (stay (tran ∷ []))
+row SdStatus = columns 13 Application Unused DROPS UNLOCKED (tran ⟶ «data» ∷ [])
+row SendNumWrBlocks = columns 22 Application Unused DROPS UNLOCKED (tran ⟶ «data» ∷ [])
+row SendScr = columns 51 Application Unused DROPS UNLOCKED (tran ⟶ «data» ∷ [])
+row SetWrBlkEraseCount = columns 23 Application Unused DROPS UNLOCKED (stay (tran ∷ []))
+row SetClrCardDetect = columns 42 Application Unused DROPS ALWAYS (stay (tran ∷ []))
+row SdSendOpCond = columns 41 Application Unused DROPS ALWAYS (stay (idle ∷ []))
+row Unknown = columns 64 Plain Unused DROPS UNLOCKED []
 
 -- the commands that have an index
 abbrev pub commands : List Command
 commands =
     GoIdleState ∷ AllSendCid ∷ SendRelativeAddr ∷ SelectCard ∷ DeselectCard ∷ SendIfCond ∷ SendCsd ∷ SendCid ∷ StopTransmission ∷ SendStatus
     ∷ AppCmd ∷ GoInactiveState ∷ SetBlocklen ∷ ReadSingleBlock ∷ ReadMultipleBlock ∷ SendWriteProt ∷ WriteBlock ∷ WriteMultipleBlock
-    ∷ SetWriteProt ∷ ClrWriteProt ∷ Erase ∷ EraseWrBlkStart ∷ EraseWrBlkEnd ∷ SdStatus ∷ SendNumWrBlocks ∷ SendScr ∷ SetWrBlkEraseCount
+    ∷ LockUnlock ∷ SetWriteProt ∷ ClrWriteProt ∷ Erase ∷ EraseWrBlkStart ∷ EraseWrBlkEnd ∷ SdStatus ∷ SendNumWrBlocks ∷ SendScr ∷ SetWrBlkEraseCount
     ∷ SetClrCardDetect ∷ SdSendOpCond ∷ []
 
 -- ---- which command it is
@@ -164,8 +173,13 @@ unfoldable pub lead : List Move → ℕ → ℕ
 lead [] s = s
 lead (m ∷ ms) s = cond (eqb (m .from) s) (m .to) (lead ms s)
 
+-- in this state
 unfoldable pub legal : Command → State → Bool
 legal k s = has (moves k) (number s)
+
+-- on a card that is locked or not
+unfoldable pub accepts : Command → Bool → Bool
+accepts k locked = row k .whenLocked || not locked
 
 -- the state after a command, with transfer t where it opens one
 unfoldable pub after : Command → State → State → State

@@ -18,6 +18,7 @@ pub enum Command {
     SendWriteProt,
     WriteBlock,
     WriteMultipleBlock,
+    LockUnlock,
     SetWriteProt,
     ClrWriteProt,
     Erase,

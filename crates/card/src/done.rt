@@ -24,6 +24,8 @@ pub enum Effect {
     Sweep { first: u32, count: u32 },
     // the mark of a group is set or cleared
     Protect { group: u32, value: bool },
+    // every block is zeroed, protected or not, and every mark cleared
+    ForceErase,
 }
 
 // What a command that ran comes to. The kept bits of the record are those held before and the command's own.

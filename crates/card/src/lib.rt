@@ -3,6 +3,7 @@
 pub mod answer;
 pub mod command;
 pub mod done;
+pub mod lock;
 pub mod size;
 
 use reg_cid::cid::Cid;
@@ -38,10 +39,11 @@ pub enum Source {
     Scr,
 }
 
-// What a write transfer takes in: the block of 24, the blocks of 25. A held one is silent until it is ended.
+// What a write transfer takes in: the block of 24, the blocks of 25, the block of 42. A held one is silent until it is ended.
 pub enum Sink {
     Single { address: u32, held: bool },
     Multiple { address: u32, held: bool },
+    LockUnlock,
 }
 
 // The bus state, with the transfer that it stands for.
@@ -97,6 +99,7 @@ pub struct Kept {
     pub erase_seq_error: bool,
     pub erase_param: bool,
     pub wp_violation: bool,
+    pub lock_unlock_failed: bool,
     pub illegal_command: bool,
     pub wp_erase_skip: bool,
     pub erase_reset: bool,
@@ -113,8 +116,17 @@ pub struct Core {
     pub length: u16,
     // blocks stored since a write command last reached rcv, for A22
     pub written: u32,
+    // a locked card accepts few commands, none of which touches memory
+    pub locked: bool,
     // a bit for each protection group, eight to a byte, the lowest first
     pub marks: [u8; 256],
+}
+
+// The password, none where the length is 0. It stands beside the core: no command looks at it, and a block of 42 hands the core
+// nothing but whether its operation succeeds.
+pub struct Password {
+    pub bytes: [u8; 16],
+    pub length: u8,
 }
 
 // What the line alone knows: no command looks at it.
@@ -125,5 +137,6 @@ pub struct Line {
 // What the card keeps between calls, a struct by value.
 pub struct Card {
     pub core: Core,
+    pub password: Password,
     pub line: Line,
 }

@@ -17,11 +17,12 @@ use Rattle.card.specs.Record.{withState}
 use Rattle.card.specs.Status.{OUT-OF-RANGE, WP-VIOLATION}
 use Rattle.card.specs.Effects.{Stored, stored, over, affected}
 use Rattle.card_effect.specs.Apply.{reaches}
+use Rattle.card_block_in.specs.Stores.{Decodes}
 
-module _ (p : List ℕ) (long : length p ≡ BLOCK + CHECK) where
+module _ (p : List ℕ) (d : Decodes p) where
   judged : decodePacket p ≡ cond (packetRight p) (done (payloadOf p)) (refused WRONG)
   unfolding decodePacket
-  judged = rw (le-leb 3 (length p) (omega arith), le-leb (length p) 514 (omega arith))
+  judged = rw (le-leb 3 (length p) (d .low), le-leb (length p) 514 (d .high))
 
   -- the decoder's number is 0 exactly if the check is the payload's
   pub right : why (decodePacket p) ≡ 0 → packetRight p ≡ true
@@ -40,6 +41,11 @@ module _ (p : List ℕ) (long : length p ≡ BLOCK + CHECK) where
 
   pub payload : why (decodePacket p) ≡ 0 → part (decodePacket p) ≡ payloadOf p
   payload e = ap part judged ∙ rw (right e)
+
+-- a block of 24 or 25
+module _ (p : List ℕ) (long : length p ≡ BLOCK + CHECK) where
+  pub decodes : Decodes p
+  decodes = record { low = omega arith; high = omega arith }
 
   pub length-payload : length (payloadOf p) ≡ BLOCK
   unfolding payloadOf

@@ -1,14 +1,14 @@
-// A data block into an open write transfer: its check, the place, and the store.
+// A data block into the open transfer of 24 or 25: its check, the place, and the store.
 ghost use mathlib.Core.Path.{_≡_};
 ghost use mathlib.Core.List.{[]};
 ghost use mathlib.Core.Bool.{true, false, cond};
 ghost use Prim.Native.Nat.{_+_, _*_, _<_};
 ghost use lib.ListN.{length};
+ghost use Rattle.wire_packet.specs.Packet.{CHECK};
 ghost use Rattle.card.specs.declared.State.the-variants.{Tran, Rcv, Prg};
 ghost use Rattle.card.specs.Settings.{BLOCK, MOST};
 ghost use Rattle.card.specs.State.{sink};
 ghost use Rattle.card.specs.Data.{writeInto};
-ghost use Rattle.card.specs.Step.{blockSize};
 ghost use Rattle.card_call.specs.Seen.{returned, turned};
 ghost use Rattle.card.specs.Checks.{outside};
 ghost use Rattle.card.specs.Status.{OUT-OF-RANGE, WP-VIOLATION};
@@ -33,14 +33,14 @@ use card_state::sink;
 use card_status::OUT_OF_RANGE;
 use card_status::WP_VIOLATION;
 
-// An open write transfer.
+// An open transfer of 24 or 25.
 pub(crate) struct Transfer {
     multiple: bool,
     address: u32,
     held: bool,
 }
 
-// Where no write is open row 5 has refused the call: as a held one.
+// Where no write is open row 5 has refused the call, and 42's is none of these: as a held one.
 pub(crate) fn open_write(o: Open) -> Transfer
     ensures { λ r. ⌜ r ≡ parts o ⌝ }
 {
@@ -63,6 +63,7 @@ pub(crate) fn open_write(o: Open) -> Transfer
                 address,
                 held,
             },
+            Sink::LockUnlock => closed,
         },
         Open::Busy(_) => closed,
     }
@@ -132,7 +133,7 @@ fn place(card: Card, payload: &[u8], memory: &mut [u8], t: Transfer) -> Stepped
 }
 
 pub(crate) fn write_into(card: Card, block: &[u8], memory: &mut [u8], t: Transfer) -> Stepped
-    requires { ⌜ Stores (card .core) (t .address) (now memory) × (length (now block) ≡ blockSize (card .core)) ⌝ }
+    requires { ⌜ Stores (card .core) (t .address) (now memory) × (length (now block) ≡ BLOCK + CHECK) ⌝ }
     ensures { λ r.
         ⌜ returned r (now (memory .exit)) []
         ≡ turned card (now (memory .entry)) [] (writeInto (t .multiple) (t .address) (t .held) (card .core) (now (block .entry))) ⌝ }

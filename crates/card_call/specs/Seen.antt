@@ -2,6 +2,7 @@
 use mathlib.Core.List.{List}
 use Prim.Native.Nat.{ℕ}
 use Rattle.codec.specs.Answer.{Outcome}
+use Rattle.card.specs.declared.Password.{Password}
 use Rattle.card.specs.declared.Card.{Card}
 use Rattle.card.specs.Frame.{Turn}
 use Rattle.card.specs.Step.{Call, Reply, Result, answer, world, show, step}
@@ -25,6 +26,10 @@ seen r = record { answer = r .answer; card = r .world .card; memory = r .world .
 abbrev pub stepped : Card → List ℕ → Call → Seen
 stepped card memory c = seen (step (world card memory) c)
 
--- a turn of a call that was not refused
+-- a turn of a call that was not refused, with the password that it leaves
+abbrev pub turnedWith : Card → Password → List ℕ → List ℕ → Turn → Seen
+turnedWith card password memory out t = seen (show (world card memory) password out t)
+
+-- where it keeps the card's
 abbrev pub turned : Card → List ℕ → List ℕ → Turn → Seen
-turned card memory out t = seen (show (world card memory) out t)
+turned card memory out t = turnedWith card (card .password) memory out t

@@ -5,6 +5,7 @@ ghost use Rattle.card.specs.Step.{answer};
 ghost use Rattle.card_call.specs.Replied.{replied};
 use card::Card;
 use card::Core;
+use card::Password;
 use card::answer::Answer;
 use codec::Encoded;
 
@@ -23,19 +24,28 @@ pub fn refused(card: Card, number: u8) -> Stepped
     }
 }
 
-// The answer and the new record; what the line knows stays.
-pub fn answered(card: Card, core: Core, answer: Answer) -> Stepped
-    ensures { λ r. ⌜ r ≡ record { answer = answer; card = record { core = core; line = card .line } } ⌝ }
+// The answer, the new record and the password that the call leaves; what the line knows stays.
+pub fn answered_with(card: Card, core: Core, password: Password, answer: Answer) -> Stepped
+    ensures { λ r. ⌜ r ≡ record { answer = answer; card = record { core = core; password = password; line = card .line } } ⌝ }
 {
     let line = card.line;
     let next = Card {
         core: core,
+        password: password,
         line: line,
     };
     Stepped {
         answer: answer,
         card: next,
     }
+}
+
+// Of a call that leaves the password too.
+pub fn answered(card: Card, core: Core, answer: Answer) -> Stepped
+    ensures { λ r. ⌜ r ≡ record { answer = answer; card = record { core = core; password = card .password; line = card .line } } ⌝ }
+{
+    let password = card.password;
+    answered_with(card, core, password, answer)
 }
 
 // What an encoder answered: the bytes were sent, or its refusal.

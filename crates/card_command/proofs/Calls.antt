@@ -14,7 +14,7 @@ use Rattle.card.specs.declared.Settings.{Settings}
 use Rattle.card.specs.declared.Core.{Core}
 use Rattle.card.specs.declared.Card.{Card}
 use Rattle.card.specs.declared.done.Effect.{Effect}
-use Rattle.card.specs.declared.done.Effect.the-variants.{Nothing, Store, Sweep, Protect}
+use Rattle.card.specs.declared.done.Effect.the-variants.{Nothing, Store, Sweep, Protect, ForceErase}
 use Rattle.card.specs.Settings.{BLOCK, capacity}
 use Rattle.card.specs.Record.{withMarks}
 use Rattle.card.specs.Protect.{whole}
@@ -30,7 +30,7 @@ use Rattle.card_respond.specs.Sent.{message, Responded, responded, onLine}
 use Rattle.card_effect.specs.Apply.{reaches}
 use Rattle.card_finish.specs.declared.Turned.{Turned}
 use Rattle.card_finish.specs.Turned.{turned}
-use Rattle.card_refuse.proofs.Passed.{passed}
+use Rattle.card_refuse.proofs.Passed.{passed, sound-record}
 use Rattle.card_command.specs.Shows.{Shows}
 
 inside-reaches : (s : Settings) (e : Effect) (memory : List ℕ) → Inside s e [] → length memory ≡ capacity s → reaches e 0 (length memory) ≡ true
@@ -38,6 +38,7 @@ inside-reaches s Nothing memory h l = refl
 inside-reaches s (Store address) memory h l = le-leb (address + 0) (length memory) (omega arith)
 inside-reaches s (Sweep first count) memory h l = le-leb ((first + count) * BLOCK) (length memory) (omega arith)
 inside-reaches s (Protect group value) memory h l = refl
+inside-reaches s ForceErase memory h l = refl
 
 -- where no row applies, what the frame comes to can be shown
 module _ (card : Card) (frame memory out : List ℕ) (spared : frameRefusal (world card memory) frame out ≡ none) where
@@ -48,7 +49,7 @@ module _ (card : Card) (frame memory out : List ℕ) (spared : frameRefusal (wor
       let whole = eqb-true (length memory) (capacity (card .core .settings)) (not-false _ (row 2)) in
       let inside : Inside (card .core .settings) (t .effect) [] =
       subst (λ (x : Turn). Inside (card .core .settings) (x .effect) (x .payload)) (sym e)
-      (receive-lasting (card .core) frame (facts-sound (card .core) (row 1)) .inside) in
+      (receive-lasting (card .core) frame (facts-sound (card .core) (sound-record (card .core) (card .password .length) (row 1))) .inside) in
       record { room = ltb-false (length out) ROOM (row 3); inside = inside-reaches (card .core .settings) (t .effect) memory inside whole }
 
 -- a call that was not refused, by its parts
@@ -58,8 +59,8 @@ pub shown : (card : Card) (memory out : List ℕ) (t : Turned) (a : Answer) (kep
     → stored after marks
     ≡ cond (reaches (t .effect) 0 (length memory)) (affected all (t .effect) [] (stored memory (card .core .marks))) (stored memory (card .core .marks))
     → responded (answer a) buffer ≡ onLine (card .line .«com_crc_error») (message (t .core) (t .message)) out
-    → kept ≡ record { core = withMarks (t .core) marks; line = flagged (t .flag) (card .line) }
-    → returned (record { answer = a; card = kept }) after buffer ≡ seen (show (world card memory) out (turned t))
+    → kept ≡ record { core = withMarks (t .core) marks; password = card .password; line = flagged (t .flag) (card .line) }
+    → returned (record { answer = a; card = kept }) after buffer ≡ seen (show (world card memory) (card .password) out (turned t))
 unfolding show onLine
 shown card memory out t a kept all after marks buffer s w m r k =
     let crc = card .line .«com_crc_error» in
@@ -74,7 +75,7 @@ shown card memory out t a kept all after marks buffer s w m r k =
     let q : marks ≡ _ = ap (λ (x : Stored). x .marks) e in
     λ i. record {
       answer = x i;
-      card = (k ∙ ap {B = Card} (λ (n : List ℕ). record { core = withMarks (t .core) n; line = flagged (t .flag) (card .line) }) q) i;
+      card = (k ∙ ap {B = Card} (λ (n : List ℕ). record { core = withMarks (t .core) n; password = card .password; line = flagged (t .flag) (card .line) }) q) i;
       memory = p i;
       out = y i;
     }

@@ -26,9 +26,10 @@ fn show(card: Card, turn: Turned, memory: &mut [u8], out: &mut [u8]) -> Stepped
     requires { ⌜ Shows (card .core .settings) (turn .effect) (now memory) (now out) ⌝ }
     ensures { λ r.
         ⌜ returned r (now (memory .exit)) (now (out .exit))
-        ≡ seen (show (world card (now (memory .entry))) (now (out .entry)) (turned turn)) ⌝ }
+        ≡ seen (show (world card (now (memory .entry))) (card .password) (now (out .entry)) (turned turn)) ⌝ }
 {
     let line = card.line;
+    let password = card.password;
     let all = whole(card.core.settings.permanent, card.core.settings.temporary);
     let mut marks = card.core.marks;
     let effect = turn.effect;
@@ -39,7 +40,7 @@ fn show(card: Card, turn: Turned, memory: &mut [u8], out: &mut [u8]) -> Stepped
     let flag = turn.flag;
     Stepped {
         answer: answer,
-        card: kept(next, marks, flag, line),
+        card: kept(next, password, marks, flag, line),
     }
 }
 
@@ -50,6 +51,7 @@ pub fn command_frame(card: Card, frame: &[u8], memory: &mut [u8], out: &mut [u8]
 {
     let r = rows(
         card.core,
+        card.password.length,
         memory.len(),
         frame.len() != FRAME,
         out.len() < ROOM,

@@ -4,9 +4,9 @@ use mathlib.Core.Bool.{Bool, true, false, cond}
 use mathlib.Core.List.{List}
 use Prim.Native.Nat.{ℕ, _+_, _*_}
 use lib.Dec.{leb}
-use lib.ListN.{length}
+use lib.ListN.{length, replicate}
 use Rattle.card.specs.declared.done.Effect.{Effect}
-use Rattle.card.specs.declared.done.Effect.the-variants.{Store, Sweep, Protect}
+use Rattle.card.specs.declared.done.Effect.the-variants.{Store, Sweep, Protect, ForceErase}
 use Rattle.card.specs.Settings.{BLOCK}
 use Rattle.card.specs.Protect.{mark}
 use Rattle.card.specs.Effects.{Stored, stored, over, swept, affected}
@@ -39,3 +39,8 @@ module _ (all : Bool) (e : Effect) where
       → Did all e payload memory marks (stored memory next)
   unfolding affected
   did-mark group value payload memory marks next k d = rw k (ap (λ (l : List ℕ). stored memory l) d)
+
+  pub did-force : (payload memory marks : List ℕ) (next : Stored) → e ≡ ForceErase
+      → next ≡ stored (replicate (length memory) 0) (replicate (length marks) 0) → Did all e payload memory marks next
+  unfolding affected
+  did-force payload memory marks next k d = rw k d

@@ -1,2 +1,2 @@
--- Which effects stay inside the memory that is lent.
+-- Which effects stay inside the memory that is lent, and bytes zeroed from the front.
 pub mod Apply

@@ -1,39 +1,46 @@
 // What a call does to memory and protection marks, in one place. An effect that memory has no room for does nothing.
 ghost use mathlib.Core.Path.{_≡_};
 ghost use mathlib.Core.Bool.{cond};
-ghost use Prim.Native.Nat.{_+_, _*_, _^_, _<_, _≤_};
+ghost use Prim.Native.Nat.{_+_, _-_, _*_, _^_, _<_, _≤_};
 ghost use lib.Dec.{leb};
 ghost use lib.ListN.{length, replicate};
 ghost use Rattle.card.specs.Settings.{BLOCK};
 ghost use Rattle.card.specs.Effects.{stored, over, sweptBlock, swept, affected};
-ghost use Rattle.card_effect.specs.Apply.{reaches};
+ghost use Rattle.card_effect.specs.Apply.{reaches, zeroed};
 use card::done::Effect;
 use card::size::BLOCK;
 use card_protect::guarded_block;
 use card_protect::mark;
 
-// Zeroes bytes, unless they are to be kept.
-fn zero(keep: bool, part: &mut [u8])
-    ensures { λ _. ⌜ now (part .exit) ≡ cond keep (now (part .entry)) (replicate (length (now (part .entry))) 0) ⌝ }
+// Zeroes bytes, but for so many at the end.
+fn zero(kept: usize, part: &mut [u8])
+    ensures { λ _. ⌜ now (part .exit) ≡ zeroed (length (now (part .entry)) - kept) (now (part .entry)) ⌝ }
 {
-    if keep {
-        return;
-    }
     let mut i: usize = 0;
-    while i < part.len() {
+    while part.len() - i > kept {
         part[i] = 0;
         i += 1;
     }
+}
+
+// A protected block is kept to its last byte.
+fn kept_bytes(guarded: bool) -> usize
+    ensures { λ r. ⌜ r ≡ cond guarded BLOCK 0 ⌝ }
+{
+    if guarded {
+        return BLOCK as usize;
+    }
+    0
 }
 
 fn sweep_block(all: bool, marks: &[u8], memory: &mut [u8], block: u64)
     requires { ⌜ (block < 2 ^ 33) × ((block + 1) * BLOCK ≤ length (now memory)) ⌝ }
     ensures { λ _. ⌜ now (memory .exit) ≡ sweptBlock all (now (marks .entry)) block (now (memory .entry)) ⌝ }
 {
-    let keep = guarded_block(all, marks, block);
+    let kept = kept_bytes(guarded_block(all, marks, block));
     let start = (block * BLOCK as u64) as usize;
     let end = start + BLOCK as usize;
-    zero(keep, &mut memory[start..end]);
+    zero(kept, &mut memory[start..end]);
 }
 
 // Zeroes so many blocks from a number on, but for the protected ones.
@@ -69,6 +76,16 @@ fn store(address: u32, payload: &[u8], memory: &mut [u8])
     codec::copy(&mut memory[start..end], payload);
 }
 
+// Zeroes every block, protected or not, and every mark.
+fn force_erase(memory: &mut [u8], marks: &mut [u8])
+    ensures { λ _.
+        ⌜ stored (now (memory .exit)) (now (marks .exit))
+        ≡ stored (replicate (length (now (memory .entry))) 0) (replicate (length (now (marks .entry))) 0) ⌝ }
+{
+    zero(0, memory);
+    zero(0, marks);
+}
+
 pub fn apply(all: bool, effect: Effect, payload: &[u8], memory: &mut [u8], marks: &mut [u8])
     ensures { λ _.
         ⌜ stored (now (memory .exit)) (now (marks .exit))
@@ -81,5 +98,6 @@ pub fn apply(all: bool, effect: Effect, payload: &[u8], memory: &mut [u8], marks
         Effect::Store { address } => store(address, payload, memory),
         Effect::Sweep { first, count } => sweep(all, marks, memory, first, count),
         Effect::Protect { group, value } => mark(value, marks, group),
+        Effect::ForceErase => force_erase(memory, marks),
     }
 }

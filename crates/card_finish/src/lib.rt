@@ -7,6 +7,7 @@ ghost use Rattle.card_finish.specs.Turned.{turned};
 use card::Card;
 use card::Core;
 use card::Line;
+use card::Password;
 use card::command::Command;
 use card::done::Done;
 use card::done::Effect;
@@ -78,7 +79,12 @@ pub fn finish(command: Command, state: u8, done: Done) -> Turned
     let message = Message {
         response: response,
         index: card_table::index(command),
-        word: status(kept, state, card_table::shows_app(command)),
+        word: status(
+            kept,
+            done.core.locked,
+            state,
+            card_table::shows_app(command),
+        ),
     };
     Turned {
         core: with_app(cleared(response, done.core), card_table::sets_app(command)),
@@ -122,12 +128,13 @@ fn flagged(f: Flag, line: Line) -> Line
     }
 }
 
-// The record that a frame leaves, with the marks as its effect left them.
-pub fn kept(next: Core, marks: [u8; 256], flag: Flag, line: Line) -> Card
-    ensures { λ r. ⌜ r ≡ record { core = withMarks next marks; line = flagged flag line } ⌝ }
+// The record that a frame leaves, with the marks as its effect left them; no frame changes the password.
+pub fn kept(next: Core, password: Password, marks: [u8; 256], flag: Flag, line: Line) -> Card
+    ensures { λ r. ⌜ r ≡ record { core = withMarks next marks; password = password; line = flagged flag line } ⌝ }
 {
     Card {
         core: with_marks(next, marks),
+        password: password,
         line: flagged(flag, line),
     }
 }

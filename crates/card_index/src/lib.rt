@@ -45,7 +45,7 @@ fn fits(command: Command, application: bool, index: u8, own: bool) -> bool
     false
 }
 
-const COMMANDS: usize = 29;
+const COMMANDS: usize = 30;
 
 // The first command with the index, or another.
 fn find(application: bool, index: u8, own: bool, other: Command) -> Command
@@ -70,6 +70,7 @@ fn find(application: bool, index: u8, own: bool, other: Command) -> Command
         Command::SendWriteProt,
         Command::WriteBlock,
         Command::WriteMultipleBlock,
+        Command::LockUnlock,
         Command::SetWriteProt,
         Command::ClrWriteProt,
         Command::Erase,

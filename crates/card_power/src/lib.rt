@@ -8,14 +8,19 @@ use card::Card;
 use card::Core;
 use card::Line;
 use card::Open;
+use card::Password;
 use card::Settings;
 use card::State;
 use card::answer::Answer;
 use card::answer::Rows;
 use card::size::BLOCK;
+use card::size::PASSWORD;
 use card_call::Stepped;
 use card_call::answered;
 use card_call::refused;
+use card_password::is_set;
+use card_password::kept;
+use card_password::no_password;
 use card_record::erase::no_erase;
 use card_record::with_state;
 use card_refuse::refusal;
@@ -26,8 +31,8 @@ use card_status::no_bits;
 use reg_cid::cid::Cid;
 
 // What commands see of it.
-fn fresh(settings: Settings) -> Core
-    ensures { λ r. ⌜ r ≡ fresh settings ⌝ }
+fn fresh(settings: Settings, locked: bool) -> Core
+    ensures { λ r. ⌜ r ≡ fresh settings locked ⌝ }
 {
     let bus = Bus {
         state: State::Idle,
@@ -44,16 +49,19 @@ fn fresh(settings: Settings) -> Core
         erase: no_erase(),
         length: BLOCK as u16,
         written: 0,
+        locked: locked,
         marks: [0u8; 256],
     }
 }
 
-// The record that a history starts with.
-fn start(settings: Settings) -> Card
-    ensures { λ r. ⌜ r ≡ start settings ⌝ }
+// The record that a history starts with: a card with a password starts locked.
+fn start(settings: Settings, password: Password) -> Card
+    ensures { λ r. ⌜ r ≡ start settings password ⌝ }
 {
+    let stored = kept(password);
     Card {
-        core: fresh(settings),
+        core: fresh(settings, is_set(stored)),
+        password: stored,
         line: Line {
             com_crc_error: false,
         },
@@ -72,18 +80,19 @@ pub fn unpowered() -> Card
         psn: 0,
         mdt: 0,
     };
-    start(Settings {
+    let settings = Settings {
         blocks: 0,
         polls: 0,
         cid: cid,
         permanent: false,
         temporary: false,
-    })
+    };
+    start(settings, no_password())
 }
 
 // Power up. The record that was there stays where the call is refused.
-pub fn power_up(card: Card, settings: Settings, memory: &[u8]) -> Stepped
-    ensures { λ r. ⌜ returned r (now (memory .entry)) [] ≡ stepped card (now (memory .entry)) (powerUp settings) ⌝ }
+pub fn power_up(card: Card, settings: Settings, password: Password, memory: &[u8]) -> Stepped
+    ensures { λ r. ⌜ returned r (now (memory .entry)) [] ≡ stepped card (now (memory .entry)) (powerUp settings password) ⌝ }
 {
     let r = Rows {
         size: false,
@@ -91,7 +100,7 @@ pub fn power_up(card: Card, settings: Settings, memory: &[u8]) -> Stepped
         memory: memory.len() as u64 != capacity(settings.blocks),
         buffer: false,
         closed: false,
-        settings: !allowed(settings),
+        settings: !(allowed(settings) & (password.length <= PASSWORD)),
     };
     let n = refusal(&[3, 6], r);
     if n != 0 {
@@ -99,7 +108,7 @@ pub fn power_up(card: Card, settings: Settings, memory: &[u8]) -> Stepped
     }
     Stepped {
         answer: Answer::Over,
-        card: start(settings),
+        card: start(settings, password),
     }
 }
 
@@ -112,6 +121,7 @@ pub fn busy_over(card: Card, memory: &[u8]) -> Stepped
     let open = card_state::open(state);
     let r = rows(
         card.core,
+        card.password.length,
         memory.len(),
         false,
         false,

@@ -10,6 +10,7 @@ use card_index::command_of;
 use card_index::own;
 use card_run::run;
 use card_start::done::ran;
+use card_table::accepts;
 use card_table::legal;
 use card_table::misses;
 
@@ -19,7 +20,7 @@ pub fn judge(c: Core, index: u8, argument: u32) -> Judged
     let bus = c.bus;
     let state = bus.state;
     let command = command_of(bus, index, argument);
-    if !legal(command, state) {
+    if !(accepts(command, c.locked) & legal(command, state)) {
         return Judged {
             verdict: Verdict::NotAllowed,
             command: command,

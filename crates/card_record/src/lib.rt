@@ -2,14 +2,16 @@
 pub mod erase;
 
 ghost use mathlib.Core.Path.{_≡_};
-ghost use Rattle.card.specs.Record.{withBus, withState, withApp, withRca, withPolls, withKept, withErase, withLength, withWritten, withMarks};
+ghost use Rattle.card.specs.Record.{withBus, withState, withApp, withRca, withPolls, withKept, withErase, withLength, withWritten, withMarks, withLocked, withSettings};
 ghost use Rattle.card.specs.Execute.{raise, reset, dropErase};
 use card::Bus;
 use card::Core;
 use card::EraseMarks;
 use card::Kept;
+use card::Settings;
 use card::State;
 use card::size::BLOCK;
+use card_settings::csd_of;
 use card_status::join;
 use card_status::no_bits;
 use card_status::only;
@@ -60,6 +62,25 @@ pub fn with_marks(c: Core, marks: [u8; 256]) -> Core
 {
     let mut next = c;
     next.marks = marks;
+    next
+}
+
+pub fn with_locked(c: Core, locked: bool) -> Core
+    ensures { λ r. ⌜ r ≡ withLocked c locked ⌝ }
+{
+    let mut next = c;
+    next.locked = locked;
+    next
+}
+
+// The CSD is the settings in the standard's form.
+pub fn with_settings(c: Core, settings: Settings) -> Core
+    ensures { λ r. ⌜ r ≡ withSettings c settings ⌝ }
+{
+    let csd = csd_of(settings);
+    let mut next = c;
+    next.settings = settings;
+    next.csd = csd;
     next
 }
 
@@ -118,7 +139,7 @@ pub fn drop_erase(c: Core) -> Core
     with_erase(c, no_erase())
 }
 
-// Command 0: all but the settings, the last published address and the marks.
+// Command 0: all but the settings, the last published address, the lock and the marks.
 pub fn reset(c: Core) -> Core
     ensures { λ r. ⌜ r ≡ reset c ⌝ }
 {

@@ -1,6 +1,6 @@
 -- What the rows that do not apply tell of the record and of memory.
 use mathlib.Core.Path.{_≡_, refl}
-use mathlib.Core.Bool.{Bool, true, false, not, _&&_, false≢true}
+use mathlib.Core.Bool.{Bool, true, false, not, _&&_, _||_, false≢true}
 use mathlib.Core.List.{List, [], _∷_}
 use mathlib.Core.Option.{none}
 use Prim.Native.Nat.{ℕ, zero, suc, _≤_}
@@ -11,9 +11,9 @@ use Rattle.card.specs.declared.answer.Rows.{Rows}
 use Rattle.card.specs.declared.Settings.{Settings}
 use Rattle.card.specs.declared.Core.{Core}
 use Rattle.card.specs.Settings.{LEAST, MOST, capacity, allowed}
-use Rattle.card.specs.Soundness.{unsound}
+use Rattle.card.specs.Soundness.{unsound, badPassword}
 use Rattle.card.specs.Step.{applies, refusal}
-use Rattle.card.proofs.Choices.{spared}
+use Rattle.card.proofs.Choices.{neither, spared}
 use Rattle.card.proofs.Facts.{facts-sound}
 use Rattle.card_refuse.specs.Rows.{Sized}
 
@@ -23,6 +23,10 @@ unfolding applies
 passed [] r e i = refl
 passed (n ∷ ns) r e zero = spared n ns r e .0
 passed (n ∷ ns) r e (suc i) = passed ns r (spared n ns r e .1) i
+
+-- row 2 is of the record, and of the password
+pub sound-record : (c : Core) (password : ℕ) → (unsound c || badPassword (c .locked) password) ≡ false → unsound c ≡ false
+sound-record c password e = neither (unsound c) (badPassword (c .locked) password) e .0
 
 second : (a b c : Bool) → (a && (b && c)) ≡ true → b ≡ true
 second true true c e = refl

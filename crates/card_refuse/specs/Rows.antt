@@ -1,18 +1,18 @@
--- The model's rows by the length of memory.
+-- The model's rows by the lengths of the password and of memory.
 use mathlib.Core.Path.{_≡_}
-use mathlib.Core.Bool.{Bool, false, not}
+use mathlib.Core.Bool.{Bool, false, not, _||_}
 use Prim.Native.Nat.{ℕ, _≤_}
 use lib.Dec.{eqb}
 use Rattle.card.specs.declared.answer.Rows.{Rows}
 use Rattle.card.specs.declared.Core.{Core}
 use Rattle.card.specs.Settings.{MOST, capacity}
-use Rattle.card.specs.Soundness.{unsound}
+use Rattle.card.specs.Soundness.{unsound, badPassword}
 
--- `Step.rows` of a world with that record, and memory of that length
-abbrev pub rowsOf : Core → ℕ → Bool → Bool → Bool → Rows
-rowsOf c memory size buffer closed = record {
+-- `Step.rows` of a world with that record, and a password and memory of those lengths
+abbrev pub rowsOf : Core → ℕ → ℕ → Bool → Bool → Bool → Rows
+rowsOf c password memory size buffer closed = record {
   size = size;
-  unsound = unsound c;
+  unsound = unsound c || badPassword (c .locked) password;
   memory = not (eqb memory (capacity (c .settings)));
   buffer = buffer;
   closed = closed;

@@ -6,15 +6,16 @@ ghost use Rattle.card_refuse.specs.Rows.{rowsOf};
 use card::Core;
 use card::answer::Rows;
 use card_settings::capacity;
+use card_sound::bad_password;
 use card_sound::unsound;
 
-// For the calls but power-up, with the length of memory.
-pub fn rows(c: Core, memory: usize, size: bool, buffer: bool, closed: bool) -> Rows
-    ensures { λ r. ⌜ r ≡ rowsOf c memory size buffer closed ⌝ }
+// For the calls but power-up, with the lengths of the password and of memory.
+pub fn rows(c: Core, password: u8, memory: usize, size: bool, buffer: bool, closed: bool) -> Rows
+    ensures { λ r. ⌜ r ≡ rowsOf c password memory size buffer closed ⌝ }
 {
     Rows {
         size: size,
-        unsound: unsound(c),
+        unsound: unsound(c) | bad_password(c.locked, password),
         memory: memory as u64 != capacity(c.settings.blocks),
         buffer: buffer,
         closed: closed,

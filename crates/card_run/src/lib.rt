@@ -16,6 +16,7 @@ use card_record::reset;
 use card_settings::address_of;
 use card_start::done::ran;
 use card_start::moves::moving;
+use card_transfer::lock_unlock;
 use card_transfer::read_blocks;
 use card_transfer::send;
 use card_transfer::send_write_prot;
@@ -46,6 +47,7 @@ fn run_at(command: Command, c: Core, argument: u32, a: u32) -> Done
         Command::SendWriteProt => send_write_prot(c, a),
         Command::WriteBlock => write_blocks(Command::WriteBlock, c, false, a),
         Command::WriteMultipleBlock => write_blocks(Command::WriteMultipleBlock, c, true, a),
+        Command::LockUnlock => lock_unlock(c),
         Command::SetWriteProt => set_mark(Command::SetWriteProt, c, true, a),
         Command::ClrWriteProt => set_mark(Command::ClrWriteProt, c, false, a),
         Command::Erase => erase(c),

@@ -20,7 +20,7 @@ module _ (r : Stepped) (card : Card) (memory made : List ℕ) where
       → encoding e made ≡ x → returned r memory made ≡ sending card core memory x
   sent-as a d core e x p q s h =
       ap (λ (y : Stepped). returned y memory made) (p ∙ ap (λ (y : Core). after card y a) s)
-      ∙ ap {B = Seen} (λ (y : Outcome Reply). record { answer = y; card = record { core = core; line = card .line }; memory = memory; out = made }) q
+      ∙ ap {B = Seen} (λ (y : Outcome Reply). record { answer = y; card = record { core = core; password = card .password; line = card .line }; memory = memory; out = made }) q
       ∙ ap (sending card core memory) h
 
 -- the same payload

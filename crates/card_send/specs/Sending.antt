@@ -11,7 +11,7 @@ use Rattle.card_call.specs.Replied.{replied}
 abbrev pub sending : Card → Core → List ℕ → Encoding → Seen
 sending card core memory e = record {
   answer = replied (e .answer);
-  card = record { core = core; line = card .line };
+  card = record { core = core; password = card .password; line = card .line };
   memory = memory;
   out = e .buffer;
 }

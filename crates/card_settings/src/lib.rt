@@ -3,6 +3,7 @@ ghost use mathlib.Core.Path.{_≡_};
 ghost use Prim.Native.Nat.{_+_, _-_, _*_, _/_};
 ghost use Rattle.card.specs.declared.Settings.{Settings};
 ghost use Rattle.card.specs.Settings.{BLOCK, GROUP, addressOf, allowed, csdOf};
+ghost use Rattle.card.specs.Data.{withoutTemporary};
 
 mod pair;
 pub mod register;
@@ -69,7 +70,7 @@ pub fn csd_of(s: Settings) -> Csd
         taac: 0x26,
         nsac: 0,
         tran_speed: 0x32,
-        ccc: 0x175,
+        ccc: 0x1F5,
         read_bl_len: 9,
         read_bl_partial: true,
         write_blk_misalign: false,
@@ -94,4 +95,13 @@ pub fn csd_of(s: Settings) -> Csd
         tmp_write_protect: s.temporary,
         file_format: 0,
     }
+}
+
+// Temporary protection goes, as after a force erase.
+pub fn without_temporary(s: Settings) -> Settings
+    ensures { λ r. ⌜ r ≡ withoutTemporary s ⌝ }
+{
+    let mut next = s;
+    next.temporary = false;
+    next
 }

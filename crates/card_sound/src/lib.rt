@@ -1,13 +1,14 @@
 // Which records are unsound.
 ghost use mathlib.Core.Path.{_≡_};
 ghost use lib.ListN.{take, drop};
-ghost use Rattle.card.specs.Soundness.{unsound, unsoundTests, anyOf};
+ghost use Rattle.card.specs.Soundness.{unsound, unsoundTests, anyOf, badPassword};
 
 mod marks;
 mod state;
 
 use card::Core;
 use card::size::BLOCK;
+use card::size::PASSWORD;
 use card_settings::allowed;
 use card_settings::capacity;
 use card_settings::csd_of;
@@ -84,4 +85,11 @@ pub fn unsound(c: Core) -> bool
         return true;
     }
     unsound_rest(c)
+}
+
+// The password's length: none though the card is locked, or more bytes than it can have.
+pub fn bad_password(locked: bool, length: u8) -> bool
+    ensures { λ r. ⌜ r ≡ badPassword locked length ⌝ }
+{
+    (locked & (length == 0)) | (length > PASSWORD)
 }

@@ -1,8 +1,9 @@
 // What is asked of the transfer, of an erase mark, and of the number of a state.
 ghost use mathlib.Core.Path.{_≡_};
-ghost use Rattle.card.specs.Soundness.{offWrite, writtenMost, markOutside, badRca, badApp};
+ghost use Rattle.card.specs.Soundness.{offWrite, sinkMost, writtenMost, markOutside, badRca, badApp};
 use card::EraseMark;
 use card::Open;
+use card::Sink;
 use card::size::BLOCK;
 use card_state::sink_address;
 
@@ -26,14 +27,24 @@ pub(crate) fn off_write(o: Open) -> bool
     }
 }
 
-// The blocks below a write transfer's address, or n elsewhere.
+fn sink_most(s: Sink, n: u32) -> u32
+    ensures { λ r. ⌜ r ≡ sinkMost s n ⌝ }
+{
+    match s {
+        Sink::Single { address, held: _ } => address / BLOCK,
+        Sink::Multiple { address, held: _ } => address / BLOCK,
+        Sink::LockUnlock => n,
+    }
+}
+
+// The blocks below a write transfer's address, or n elsewhere: 42's has none.
 pub(crate) fn written_most(o: Open, n: u32) -> u32
     ensures { λ r. ⌜ r ≡ writtenMost o n ⌝ }
 {
     match o {
         Open::Nothing => n,
         Open::Read(_) => n,
-        Open::Write(sink) => sink_address(sink) / BLOCK,
+        Open::Write(sink) => sink_most(sink, n),
         Open::Busy(_) => n,
     }
 }

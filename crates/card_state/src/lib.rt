@@ -1,7 +1,7 @@
 // The number of a state, and what it has open: every question that is asked of a state goes by these.
 ghost use mathlib.Core.Path.{_≡_};
 ghost use Prim.Native.Nat.{_≤_};
-ghost use Rattle.card.specs.State.{number, arrive, openOf, reading, writing, busy, sourceAddress, sinkAddress, transferAddress, sink};
+ghost use Rattle.card.specs.State.{number, arrive, openOf, reading, writing, busy, sinkLocks, locking, sourceAddress, sinkAddress, transferAddress, sink};
 use card::Open;
 use card::Sink;
 use card::Source;
@@ -92,6 +92,34 @@ pub fn busy(o: Open) -> bool
     }
 }
 
+fn sink_locks(s: Sink) -> bool
+    ensures { λ r. ⌜ r ≡ sinkLocks s ⌝ }
+{
+    match s {
+        Sink::Single {
+            address: _,
+            held: _,
+        } => false,
+        Sink::Multiple {
+            address: _,
+            held: _,
+        } => false,
+        Sink::LockUnlock => true,
+    }
+}
+
+// The block of 42 is awaited.
+pub fn locking(o: Open) -> bool
+    ensures { λ r. ⌜ r ≡ locking o ⌝ }
+{
+    match o {
+        Open::Nothing => false,
+        Open::Read(_) => false,
+        Open::Write(sink) => sink_locks(sink),
+        Open::Busy(_) => false,
+    }
+}
+
 fn source_address(s: Source) -> u32
     ensures { λ r. ⌜ r ≡ sourceAddress s ⌝ }
 {
@@ -114,6 +142,7 @@ pub fn sink_address(s: Sink) -> u32
     match s {
         Sink::Single { address, held: _ } => address,
         Sink::Multiple { address, held: _ } => address,
+        Sink::LockUnlock => 0,
     }
 }
 

@@ -18,6 +18,10 @@ pub const ERASE_PARAM: u8 = 27;
 
 pub const WP_VIOLATION: u8 = 26;
 
+pub const CARD_IS_LOCKED: u8 = 25;
+
+pub const LOCK_UNLOCK_FAILED: u8 = 24;
+
 pub const ILLEGAL_COMMAND: u8 = 22;
 
 pub const WP_ERASE_SKIP: u8 = 15;
@@ -35,6 +39,7 @@ pub fn only(n: u8) -> Kept
         erase_seq_error: n == ERASE_SEQ_ERROR,
         erase_param: n == ERASE_PARAM,
         wp_violation: n == WP_VIOLATION,
+        lock_unlock_failed: n == LOCK_UNLOCK_FAILED,
         illegal_command: n == ILLEGAL_COMMAND,
         wp_erase_skip: n == WP_ERASE_SKIP,
         erase_reset: n == ERASE_RESET,
@@ -51,6 +56,7 @@ pub fn no_bits() -> Kept
         erase_seq_error: false,
         erase_param: false,
         wp_violation: false,
+        lock_unlock_failed: false,
         illegal_command: false,
         wp_erase_skip: false,
         erase_reset: false,
@@ -68,6 +74,7 @@ pub fn join(a: Kept, b: Kept) -> Kept
         erase_seq_error: a.erase_seq_error | b.erase_seq_error,
         erase_param: a.erase_param | b.erase_param,
         wp_violation: a.wp_violation | b.wp_violation,
+        lock_unlock_failed: a.lock_unlock_failed | b.lock_unlock_failed,
         illegal_command: a.illegal_command | b.illegal_command,
         wp_erase_skip: a.wp_erase_skip | b.wp_erase_skip,
         erase_reset: a.erase_reset | b.erase_reset,

@@ -9,7 +9,7 @@ use borrow.Author.Tests.{ltb-true, ne-eqb}
 use lib.Dec.{eqb, ltb}
 use lib.Pow.{pow-add}
 use Rattle.card.specs.declared.command.Command.{Command}
-use Rattle.card.specs.declared.command.Command.the-variants.{GoIdleState, AllSendCid, SendRelativeAddr, SelectCard, DeselectCard, SendIfCond, SendCsd, SendCid, StopTransmission, SendStatus, AppCmd, GoInactiveState, SetBlocklen, ReadSingleBlock, ReadMultipleBlock, SendWriteProt, WriteBlock, WriteMultipleBlock, SetWriteProt, ClrWriteProt, Erase, EraseWrBlkStart, EraseWrBlkEnd, SdStatus, SendNumWrBlocks, SendScr, SetWrBlkEraseCount, SetClrCardDetect, SdSendOpCond, Unknown}
+use Rattle.card.specs.declared.command.Command.the-variants.{GoIdleState, AllSendCid, SendRelativeAddr, SelectCard, DeselectCard, SendIfCond, SendCsd, SendCid, StopTransmission, SendStatus, AppCmd, GoInactiveState, SetBlocklen, ReadSingleBlock, ReadMultipleBlock, SendWriteProt, WriteBlock, WriteMultipleBlock, LockUnlock, SetWriteProt, ClrWriteProt, Erase, EraseWrBlkStart, EraseWrBlkEnd, SdStatus, SendNumWrBlocks, SendScr, SetWrBlkEraseCount, SetClrCardDetect, SdSendOpCond, Unknown}
 use Rattle.card.specs.declared.State.{State}
 use Rattle.card.specs.State.{number, arrive}
 use Rattle.card.specs.Table.{Move, row, moves, has, lead, after}
@@ -40,6 +40,7 @@ low-row ReadMultipleBlock = refl
 low-row SendWriteProt = refl
 low-row WriteBlock = refl
 low-row WriteMultipleBlock = refl
+low-row LockUnlock = refl
 low-row SetWriteProt = refl
 low-row ClrWriteProt = refl
 low-row Erase = refl

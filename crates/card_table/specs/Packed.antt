@@ -21,5 +21,6 @@ packedRow k = record {
   kind = row k .kind;
   rca = row k .rca;
   «keeps_erase» = row k .keepsErase;
+  «when_locked» = row k .whenLocked;
   moves = packed (row k .moves) 0 10;
 }

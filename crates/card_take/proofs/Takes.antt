@@ -22,21 +22,22 @@ use Rattle.card.specs.Step.{TAKE-ROWS, applies, refusal, blockRoom}
 use Rattle.card_refuse.specs.Rows.{rowsOf}
 use Rattle.card.proofs.Open.{the-type}
 use Rattle.card.proofs.Facts.{facts-sound}
-use Rattle.card_refuse.proofs.Passed.{passed, sized}
+use Rattle.card_refuse.proofs.Passed.{passed, sound-record, sized}
 use Rattle.card_take.specs.Takes.{Takes}
 
 -- a read that stays in its block stays in the card
 pub inside : (a n b : ℕ) → a < b * BLOCK → a % BLOCK + n ≤ BLOCK → a + n ≤ b * BLOCK
 inside a n b h k = omega arith
 
-pub takes : (c : Core) (memory out : List ℕ) (closed : Bool)
-    → refusal TAKE-ROWS (rowsOf c (length memory) false (ltb (length out) (blockRoom c)) closed) ≡ none → Takes c memory out
+pub takes : (c : Core) (password : ℕ) (memory out : List ℕ) (closed : Bool)
+    → refusal TAKE-ROWS (rowsOf c password (length memory) false (ltb (length out) (blockRoom c)) closed) ≡ none → Takes c memory out
 unfolding applies
-takes c memory out closed e =
-    let row = passed TAKE-ROWS (rowsOf c (length memory) false (ltb (length out) (blockRoom c)) closed) e in
-    let size = facts-sound c (row 0) .0 .size in
+takes c password memory out closed e =
+    let row = passed TAKE-ROWS (rowsOf c password (length memory) false (ltb (length out) (blockRoom c)) closed) e in
+    let sound = sound-record c password (row 0) in
+    let size = facts-sound c sound .0 .size in
     record {
-      size = sized c (length memory) (row 0) (row 1);
+      size = sized c (length memory) sound (row 1);
       low = size .low;
       high = size .high;
       room = ltb-false (length out) (blockRoom c) (row 2);

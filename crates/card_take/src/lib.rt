@@ -24,6 +24,7 @@ pub fn take(card: Card, memory: &[u8], out: &mut [u8]) -> Stepped
     let room = BLOCK as usize + CHECK;
     let r = rows(
         card.core,
+        card.password.length,
         memory.len(),
         false,
         out.len() < room,

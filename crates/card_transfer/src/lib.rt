@@ -1,12 +1,13 @@
 // The commands that open a transfer, set its block length, or change protection.
 ghost use mathlib.Core.Path.{_≡_};
 ghost use Rattle.card.specs.declared.Source.the-variants.{WriteProtect};
-ghost use Rattle.card.specs.declared.State.the-variants.{Data};
+ghost use Rattle.card.specs.declared.State.the-variants.{Data, Rcv};
 ghost use Rattle.card.specs.declared.done.Response.the-variants.{R1};
 ghost use Rattle.card.specs.Settings.{capacity};
 ghost use Rattle.card.specs.Checks.{addressChecks};
 ghost use Rattle.card.specs.Execute.{ran, opening, checked, setBlocklen, readBlocks, writeBlocks, setMark};
 use card::Core;
+use card::Sink;
 use card::Source;
 use card::State;
 use card::command::Command;
@@ -43,11 +44,25 @@ pub fn set_blocklen(c: Core, argument: u32) -> Done
     ran(with_length(c, argument as u16), Response::R1)
 }
 
+// The state t is the transfer that the command opens.
+fn opened(command: Command, c: Core, t: State) -> Done
+    ensures { λ r. ⌜ r ≡ ran (opening command c t) R1 ⌝ }
+{
+    ran(opening(command, c, t), Response::R1)
+}
+
 // A13, A22 and A51, and what the other reads open.
 pub fn send(command: Command, c: Core, source: Source) -> Done
     ensures { λ r. ⌜ r ≡ ran (opening command c (Data source)) R1 ⌝ }
 {
-    ran(opening(command, c, State::Data(source)), Response::R1)
+    opened(command, c, State::Data(source))
+}
+
+// 42.
+pub fn lock_unlock(c: Core) -> Done
+    ensures { λ r. ⌜ r ≡ ran (opening Command.LockUnlock c (Rcv Sink.LockUnlock)) R1 ⌝ }
+{
+    opened(Command::LockUnlock, c, State::Rcv(Sink::LockUnlock))
 }
 
 pub fn read_blocks(command: Command, c: Core, multiple: bool, address: u32) -> Done

@@ -1,19 +1,26 @@
-// The console's own calls of the card: a power-up with any settings, and a block of any size.
+// The console's own calls of the card: a power-up with any settings and password, and a block of any size.
 use card::Card;
 use console_memory::lent;
+use console_read::SETTINGS;
 use console_read::SettingsRead;
+use console_read::password::password;
 use replay_answer::Replayed;
 use replay_answer::answer_line;
 use replay_answer::unreadable;
+use replay_read::behind;
 use replay_read::front;
 use replay_read::hex::unhex;
 use replay_write::Kind;
 
 pub fn power(card: Card, memory: &[u8], fields: &[u8], text: &mut [u8]) -> Replayed {
-    match console_read::settings(fields) {
+    let read = password(behind(fields, SETTINGS));
+    if !read.readable {
+        return unreadable(card, text);
+    }
+    match console_read::settings(front(fields, SETTINGS)) {
         SettingsRead::Read(settings) => {
             let n = lent(settings.blocks, memory.len());
-            let s = card_power::power_up(card, settings, front(memory, n));
+            let s = card_power::power_up(card, settings, read.password, front(memory, n));
             answer_line(Kind::Response, s, &[], text)
         }
         SettingsRead::Unreadable => unreadable(card, text),

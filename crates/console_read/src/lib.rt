@@ -1,4 +1,6 @@
 // The settings of a power-up, as its line has them.
+pub mod password;
+
 use card::Settings;
 use codec::word;
 use codec::word32;
@@ -25,9 +27,12 @@ fn settings_of(blocks: u32, polls: u8, content: [u8; 15], flags: u8) -> Settings
     })
 }
 
+// The digits of the settings and the tabs between them.
+pub const SETTINGS: usize = 45;
+
 // What follows the word of a power-up: block count, start polls, CID and flags, in 8, 2, 30 and 2 digits parted by tabs.
 pub fn settings(fields: &[u8]) -> SettingsRead {
-    if fields.len() != 45 {
+    if fields.len() != SETTINGS {
         return SettingsRead::Unreadable;
     }
     let mut blocks: [u8; 4] = [0; 4];

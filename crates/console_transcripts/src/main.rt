@@ -15,6 +15,8 @@ fn console(name: &[u8]) {
 fn main() {
     console(b"power.in");
     console(b"protected.in");
+    console(b"lock.in");
+    console(b"locked.in");
     console(b"memory.in");
     console(b"sizes.in");
     console(b"lines.in");

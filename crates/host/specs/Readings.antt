@@ -69,7 +69,7 @@ begins = six 0xFFFFFFFFFFFF ∷ [] ∷ echo ∷ marked ∷ []
 abbrev pub identifies : List (List ℕ)
 identifies =
     ready ∷ seventeen 0x3F00000000000000000000000000000001 ∷ six 0x0300010500A5
-    ∷ seventeen 0x3F0026003217598003C0004F80824000BF ∷ six 0x070000070075 ∷ []
+    ∷ seventeen 0x3F002600321F598003C0004F8082400053 ∷ six 0x070000070075 ∷ []
 
 abbrev pub asks : List Says
 asks = frame 0x400000000095 ∷ frame 0x48000001AA87 ∷ frame 0x770000000065 ∷ frame 0x6900FF800085 ∷ []

@@ -64,7 +64,7 @@ turnAt w index argument = showSd (w .card .core) (judge (w .card .core) index ar
 pub record Turns (w : World) (index argument : ℕ) (v : World) (heard : List ℕ) : Type 0 where
   pub fit : fits (command .slots) (index ∷ argument ∷ []) ≡ true
   pub awake : eqb (number (w .card .core .bus .state)) ina ≡ false
-  pub next : show w [] (turnAt w index argument) .world ≡ v
+  pub next : show w (w .card .password) [] (turnAt w index argument) .world ≡ v
   pub says : wire (w .card .line .«com_crc_error») (turnAt w index argument .message) ≡ heard
 
 module _
@@ -74,11 +74,11 @@ module _
     abbrev asked : List ℕ
     asked = image command (index ∷ argument ∷ [])
 
-    runs : Card.step w (commandFrame asked out) ≡ show w out (turnAt w index argument)
+    runs : Card.step w (commandFrame asked out) ≡ show w (w .card .password) out (turnAt w index argument)
     unfolding Card.step receive byCheck
     runs =
         framed-runs w asked out s (length-image command _) room
-        ∙ ap (show w out) (rw (t .awake, frame-good index argument (t .fit)))
+        ∙ ap (show w (w .card .password) out) (rw (t .awake, frame-good index argument (t .fit)))
 
     behind : Card.step w (commandFrame asked out) .world ≡ v
     unfolding show

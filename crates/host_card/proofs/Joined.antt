@@ -1,6 +1,6 @@
 -- Host and card joined: place by place, from the last to the first.
 use mathlib.Core.Path.{_≡_, refl, sym, subst}
-use mathlib.Core.Bool.{Bool, true, false, _&&_}
+use mathlib.Core.Bool.{Bool, true, false, _&&_, and-eq-true-iff}
 use mathlib.Core.List.{List, []}
 use Prim.Native.Nat.{ℕ, zero, suc, _+_, _*_, _≤_}
 use native.Mathlib.Omega.{arith}
@@ -21,10 +21,12 @@ use Rattle.host.specs.Reply.{withRca, withCid, withCsd, judge, learn}
 use Rattle.host.specs.Host as Host
 use Rattle.host.specs.Host.{MOST, Result, unknown, begin, unsound, end, counted, sends, ofPoll}
 use Rattle.card.specs.declared.Settings.{Settings}
+use Rattle.card.specs.declared.Password.{Password}
 use Rattle.card.specs.declared.State.{State}
 use Rattle.card.specs.declared.State.the-variants.{Idle, Ready, Ident, Stby, Tran}
 use Rattle.card.specs.declared.Card.{Card}
 use Rattle.card.specs.Settings.{allowed, csdOf, cidBytes, csdBytes}
+use Rattle.card.specs.Lock.{passwordOf, content, isSet}
 use Rattle.card.specs.Step.{World, world, fresh, start}
 use Rattle.card.specs.History.{Sound}
 use Rattle.card.proofs.Sound.{starts-sound}
@@ -36,7 +38,7 @@ use Rattle.host_card.proofs.Turns.{at, answers, echo, marked, busyOcr, 
 use Rattle.host_card.proofs.Replies.{echo-expected, marked-expected, still-busy, ready-expected, rca-expected, rca-learnt, chosen-expected, cid-back, cid-expected, cid-learnt, csd-back, csd-expected, csd-learnt}
 
 module _
-    (s : Settings) (permitted : allowed s ≡ true) (marks memory : List ℕ)
+    (s : Settings) (permitted : allowed s ≡ true) (password : Password) (locked : Bool) (marks memory : List ℕ)
     (limit : ℕ) (enough : s .polls + 1 ≤ limit) (most : limit ≤ MOST) (b : Buffers)
   where
     abbrev host : ℕ → Phase → Found → Host
@@ -50,7 +52,7 @@ module _
     Up n h w reply = BroughtUp s memory (joined n b h w reply)
 
     abbrev card : State → ℕ → ℕ → Bool → World
-    card = at s marks memory
+    card = at s password marks memory locked
 
     -- an expected reply, and the exchange that the next command makes
     replied : (n polls : ℕ) {w v : World} (reply : List ℕ) {heard : List ℕ} (f g : Found) (k next : Command) → polls ≤ limit
@@ -83,39 +85,39 @@ module _
     abbrev known : Found
     known = withCsd addressed (csdBytes (csdOf s))
 
-    to-select : Up 0 (host all (Sent SelectCard) known) (card Tran 1 0 false) chosen
+    to-select : Up 0 (host all (Sent SelectCard) known) (card Tran 1 0 false) (chosen locked)
     unfolding joined end row learn
     to-select =
         subst (λ (r : Result). BroughtUp s memory (meeting r (card Tran 1 0 false) 0))
         (sym
-        (selects (host all (Sent SelectCard) known) chosen (b .host 0) (sound all enough) (b .hostRoom 0) SelectCard known refl refl
-        chosen-expected refl))
+        (selects (host all (Sent SelectCard) known) (chosen locked) (b .host 0) (sound all enough) (b .hostRoom 0) SelectCard known refl refl
+        (chosen-expected locked) refl))
         (record { answer = refl; exchanges = refl; polls = refl; rca = refl; cid = cid-back s permitted; csd = csd-back s; state = refl; memory = refl })
 
     to-csd : Sound (card Stby 1 0 false) → Up 1 (host all (Sent SendCsd) addressed) (card Stby 1 0 false) csdR2
     unfolding row sends counted
     to-csd =
         replied 0 all csdR2 addressed known SendCsd SelectCard enough (csd-expected s) (csd-learnt s addressed) refl refl
-        (answers s marks memory .selectCard) (λ next. to-select)
+        (answers s password marks memory locked .selectCard) (λ next. to-select)
 
     to-rca : Sound (card Stby 1 0 false) → Up 2 (host all (Sent SendRelativeAddr) named) (card Stby 1 0 false) published
     unfolding row sends counted
     to-rca =
         replied 1 all published named addressed SendRelativeAddr SendCsd enough rca-expected (rca-learnt named) refl refl
-        (answers s marks memory .sendCsd) to-csd
+        (answers s password marks memory locked .sendCsd) to-csd
 
     to-cid : Sound (card Ident 0 0 false) → Up 3 (host all (Sent AllSendCid) unknown) (card Ident 0 0 false) cidR2
     unfolding row sends counted
     to-cid =
         replied 2 all cidR2 unknown named AllSendCid SendRelativeAddr enough (cid-expected s permitted) (cid-learnt s permitted unknown)
         refl refl
-        (answers s marks memory .sendRelativeAddr) to-rca
+        (answers s password marks memory locked .sendRelativeAddr) to-rca
 
     to-ready : Sound (card Ready 0 0 false) → Up 4 (host all (Sent SdSendOpCond) unknown) (card Ready 0 0 false) readyOcr
     unfolding row sends counted learn
     to-ready =
         replied 3 all readyOcr unknown unknown SdSendOpCond AllSendCid enough ready-expected refl refl refl
-        (answers s marks memory .allSendCid) to-cid
+        (answers s password marks memory locked .allSendCid) to-cid
 
     -- ---- the polls
 
@@ -130,9 +132,9 @@ module _
         → Sound (card Idle 0 q false) → Up (suc (suc n)) (host polls phase unknown) (card Idle 0 q false) reply
     unfolding row sends counted learn
     poll n q polls phase reply few e t then here =
-        exchange (BroughtUp s memory) (suc n) b (host polls phase unknown) (card Idle 0 q false) (card Idle 0 q true) reply marked
-        unknown AppCmd here e (answers s marks memory .appCmd q)
-        (replied n polls marked unknown unknown AppCmd SdSendOpCond (omega arith) marked-expected refl refl
+        exchange (BroughtUp s memory) (suc n) b (host polls phase unknown) (card Idle 0 q false) (card Idle 0 q true) reply (marked locked)
+        unknown AppCmd here e (answers s password marks memory locked .appCmd q)
+        (replied n polls (marked locked) unknown unknown AppCmd SdSendOpCond (omega arith) (marked-expected locked) refl refl
         (lt-leb limit polls (omega arith)) t then)
 
     polls : (q polls : ℕ) (phase : Phase) (reply : List ℕ) → polls + q ≡ s .polls → Polls (2 * q + 6) polls phase reply
@@ -140,14 +142,14 @@ module _
     unfolding row learn
     polls zero n phase reply count e here =
         let ended : n + 1 ≡ all = omega arith in
-        poll 4 0 n phase reply (omega arith) e (answers s marks memory .ready) (rw ended to-ready) here
+        poll 4 0 n phase reply (omega arith) e (answers s password marks memory locked .ready) (rw ended to-ready) here
     polls (suc q) n phase reply count e here =
         let more : 2 * suc q + 6 ≡ suc (suc (2 * q + 6)) = omega arith in
         let again : Polls (2 * q + 6) (n + 1) (Sent SdSendOpCond) busyOcr =
         polls-again (host (n + 1) (Sent SdSendOpCond) unknown) busyOcr (b .host (2 * q + 6)) (sound (n + 1) (omega arith)) (b .hostRoom (2 * q + 6))
         SdSendOpCond unknown refl refl still-busy (lt-leb limit (n + 1) (omega arith)) in
         rw more
-        (poll (2 * q + 6) (suc q) n phase reply (omega arith) (subst (λ (m : ℕ). Polls m n phase reply) more e) (answers s marks memory .stillBusy q)
+        (poll (2 * q + 6) (suc q) n phase reply (omega arith) (subst (λ (m : ℕ). Polls m n phase reply) more e) (answers s password marks memory locked .stillBusy q)
         (polls q (n + 1) (Sent SdSendOpCond) busyOcr (omega arith) again) here)
 
     -- ---- from the start
@@ -164,7 +166,7 @@ module _
     unfolding row sends counted learn judge
     to-silence =
         replied (2 * s .polls + 6) 0 [] unknown unknown GoIdleState SendIfCond (omega arith) refl refl refl refl
-        (answers s marks memory .sendIfCond (s .polls)) to-echo
+        (answers s password marks memory locked .sendIfCond (s .polls)) to-echo
 
     from-start : Sound (card Idle 0 (s .polls) false) → Up (2 * s .polls + 8) (host 0 Start unknown) (card Idle 0 (s .polls) false) []
     unfolding row sends counted
@@ -174,11 +176,12 @@ module _
         rw count
         (exchange (BroughtUp s memory) (suc (2 * s .polls + 6)) b (host 0 Start unknown) w w [] [] unknown GoIdleState here
         (sends-first (host 0 Start unknown) [] (b .host (suc (suc (2 * s .polls + 6)))) (sound 0 (omega arith)) (b .hostRoom (suc (suc (2 * s .polls + 6)))) refl)
-        (answers s marks memory .goIdleState) to-silence)
+        (answers s password marks memory locked .goIdleState) to-silence)
 
 pub brings-up : BringsUp
 unfolding start fresh
 brings-up w h limit enough most b =
     let s = h .settings in
     subst (λ (c : Card). let w = world c (w .memory) in Sound w → BroughtUp s (w .memory) (joined (2 * s .polls + 8) b (begin limit) w []))
-    (sym (h .powered)) (from-start s (h .permitted) (replicate 256 0) (w .memory) limit enough most b) (starts-sound w h)
+    (sym (h .powered)) (from-start s (and-eq-true-iff (allowed s) _ .0 (h .allowed) .0) (passwordOf (content (h .password))) (isSet (passwordOf (content (h .password)))) (replicate 256 0) (w .memory) limit enough most b)
+    (starts-sound w h)

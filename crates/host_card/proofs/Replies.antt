@@ -1,6 +1,6 @@
 -- The card's answers as the host judges them, and what it learns.
 use mathlib.Core.Path.{_≡_, refl}
-use mathlib.Core.Bool.{true}
+use mathlib.Core.Bool.{Bool, true, false}
 use mathlib.Core.List.{[], _∷_}
 use native.Mathlib.Omega.{arith}
 use Rattle.crc.specs.Bits.{bits, number}
@@ -31,9 +31,10 @@ pub echo-expected : judge R7 8 echo ≡ Expected
 unfolding judge fits
 echo-expected = rw (r7-trip .decode-encode (1 ∷ 0xAA ∷ []) refl)
 
-pub marked-expected : judge R1 55 marked ≡ Expected
+pub marked-expected : (locked : Bool) → judge R1 55 (marked locked) ≡ Expected
 unfolding judge fits
-marked-expected = rw (r1-trip 55 (omega arith) .decode-encode (288 ∷ []) refl)
+marked-expected false = rw (r1-trip 55 (omega arith) .decode-encode (0x120 ∷ []) refl)
+marked-expected true = rw (r1-trip 55 (omega arith) .decode-encode (0x2000120 ∷ []) refl)
 
 pub still-busy : judge R3 41 busyOcr ≡ Busy
 unfolding judge fits
@@ -55,9 +56,10 @@ pub rca-learnt : (f : Found) → learn R6 f published ≡ withRca f 1
 unfolding learn
 rca-learnt f = rw rca-read
 
-pub chosen-expected : judge R1 7 chosen ≡ Expected
+pub chosen-expected : (locked : Bool) → judge R1 7 (chosen locked) ≡ Expected
 unfolding judge fits
-chosen-expected = rw (r1-trip 7 (omega arith) .decode-encode (1792 ∷ []) refl)
+chosen-expected false = rw (r1-trip 7 (omega arith) .decode-encode (0x700 ∷ []) refl)
+chosen-expected true = rw (r1-trip 7 (omega arith) .decode-encode (0x2000700 ∷ []) refl)
 
 -- ---- the registers
 

@@ -2,9 +2,11 @@
 ghost use mathlib.Core.Path.{_≡_};
 ghost use lib.ListN.{length, replicate};
 ghost use Rattle.card.specs.Step.{start};
-ghost use Rattle.card.specs.Bench.{bench};
+ghost use Rattle.card.specs.Reading.{bench};
+ghost use Rattle.card.specs.Lock.{noPassword};
 use card::Card;
 use card::Settings;
+use card_password::no_password;
 use reg_cid::cid::Cid;
 
 // Its memory, zero at first.
@@ -14,9 +16,9 @@ pub fn blank() -> [u8; 32768]
     [0; 32768]
 }
 
-// 01's card, powered up: 64 blocks, unprotected, no polls, CID zero.
+// 01's card, powered up: 64 blocks, unprotected, no polls, CID zero, no password.
 pub fn bench(memory: &[u8; 32768]) -> Card
-    ensures { λ r. ⌜ r ≡ start bench ⌝ }
+    ensures { λ r. ⌜ r ≡ start bench noPassword ⌝ }
 {
     let cid = Cid {
         mid: 0,
@@ -33,6 +35,6 @@ pub fn bench(memory: &[u8; 32768]) -> Card
         permanent: false,
         temporary: false,
     };
-    let s = card_power::power_up(card_power::unpowered(), settings, memory);
+    let s = card_power::power_up(card_power::unpowered(), settings, no_password(), memory);
     s.card
 }

@@ -22,6 +22,7 @@ fn main() {
     replay(b"long-lines.in");
     replay(b"erase.in");
     replay(b"multiple.in");
+    replay(b"lock.in");
     replay(b"damaged.in");
     replay(b"damaged-without.in");
 }

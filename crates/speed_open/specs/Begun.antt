@@ -5,6 +5,7 @@ use Prim.Native.Nat.{ℕ, _/_, _%_, _^_}
 use lib.ListN.{length, replicate}
 use Rattle.card.specs.declared.Settings.{Settings}
 use Rattle.card.specs.Settings.{BLOCK}
+use Rattle.card.specs.Lock.{noPassword}
 use Rattle.card.specs.Step.{World, world, powerUp, commandFrame, ROOM, next, unpowered}
 
 -- a block count that memory gives, no polls, CID zero, unprotected
@@ -18,7 +19,7 @@ settings n = record {
 }
 
 abbrev pub powered : List ℕ → World
-powered memory = next (world unpowered memory) (powerUp (settings (length memory)))
+powered memory = next (world unpowered memory) (powerUp (settings (length memory)) noPassword)
 
 -- a frame with a buffer of zeroes
 abbrev pub heard : World → List ℕ → World

@@ -4,6 +4,7 @@ ghost use Rattle.speed_open.specs.Begun.{settings, powered, heard, begun
 ghost use Rattle.card.specs.Step.{world};
 use card::Card;
 use card::Settings;
+use card_password::no_password;
 use reg_cid::cid::Cid;
 
 // Unprotected, no polls, CID zero.
@@ -31,7 +32,12 @@ fn settings(bytes: usize) -> Settings
 fn powered(memory: &[u8]) -> Card
     ensures { λ r. ⌜ world r (now (memory .entry)) ≡ powered (now (memory .entry)) ⌝ }
 {
-    let s = card_power::power_up(card_power::unpowered(), settings(memory.len()), memory);
+    let s = card_power::power_up(
+        card_power::unpowered(),
+        settings(memory.len()),
+        no_password(),
+        memory,
+    );
     s.card
 }
 

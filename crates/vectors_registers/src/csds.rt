@@ -58,11 +58,11 @@ fn csd(c_size: u16, c_size_mult: u8, ccc: u16, permanent: bool, temporary: bool)
 pub fn run() {
     csd(15, 0, 0x175, false, false);
     csd(15, 0, 0x1F5, false, false);
-    csd(15, 0, 0x175, true, false);
-    csd(15, 0, 0x175, false, true);
-    csd(0, 0, 0x175, false, false);
-    csd(4095, 2, 0x175, false, false);
+    csd(15, 0, 0x1F5, true, false);
+    csd(15, 0, 0x1F5, false, true);
+    csd(0, 0, 0x1F5, false, false);
+    csd(4095, 2, 0x1F5, false, false);
     csd(4095, 7, 0x1F5, false, false);
-    csd(4096, 0, 0x175, false, false);
-    csd(15, 8, 0x175, false, false);
+    csd(4096, 0, 0x1F5, false, false);
+    csd(15, 8, 0x1F5, false, false);
 }

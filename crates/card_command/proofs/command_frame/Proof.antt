@@ -34,7 +34,7 @@ ran c =
     let n = r .before .before in
     let a = start n .args in
     runs _ _ _ _ (n .refusal .ensures) (n .before .before .rows .ensures) _ _ _ _ _ (r .before .if1 .left)
-    (d .show .ensures ∙ ap (λ (t : Turn). seen (show (world (a .card) (a .memory .now)) (a .out .now) t)) (r .receive .ensures))
+    (d .show .ensures ∙ ap (λ (t : Turn). seen (show (world (a .card) (a .memory .now)) (a .card .password) (a .out .now) t)) (r .receive .ensures))
 
 pub command-frame-spec : {M : Type 1} → statement M
 command-frame-spec =

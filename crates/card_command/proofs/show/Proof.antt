@@ -7,8 +7,8 @@ use Rattle.card_command.proofs.show.Tie as tie
 -- the array of the marks has its length
 lent : tie.Need-slice-aggregate-apply-2
 lent c =
-    let core = c .before .before .before .before .before .before .before .before .good .0 .1 .1 .0 in
-    let marks = core .1 .1 .1 .1 .1 .1 .1 .1 .1 .0 in
+    let core = c .before .before .before .before .before .before .before .before .before .good .0 .1 .1 .0 in
+    let marks = core .1 .1 .1 .1 .1 .1 .1 .1 .1 .1 .0 in
     search needs
 
 pub show-spec : {M : Type 1} → statement M
@@ -27,6 +27,6 @@ show-spec =
     let r = c .before .before .before in
     let a = r .before .before .before .before .before .before .before in
     let w = a .before .before .before .before .before in
-    let start = w .before .before .before .before in
+    let start = w .before .before .before .before .before in
     shown (start .args .card) _ _ (start .args .turn) (r .respond .result) _ _ _ _ _ (start .pre) (w .whole .ensures) (a .apply .ensures) (r .respond .ensures)
     (c .kept .ensures)))

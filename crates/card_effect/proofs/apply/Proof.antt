@@ -1,7 +1,7 @@
 -- Each effect by its own function.
 use borrow.Author.Needs.{needs}
 use Rattle.card.specs.Effects.{affected}
-use Rattle.card_effect.proofs.Did.{did-store, did-sweep, did-mark}
+use Rattle.card_effect.proofs.Did.{did-store, did-sweep, did-mark, did-force}
 use Rattle.card_effect.proofs.apply.Statement.{statement}
 use Rattle.card_effect.proofs.apply.Tie as tie
 
@@ -27,11 +27,19 @@ protects c =
     let a = e .before .before .before .before .before .args in
     did-mark (a .all) (a .effect) _ _ (a .payload .now) (a .memory .now) (a .marks .now) _ (e .effect3 .given .1) (c .before .before .mark .ensures)
 
+erases : tie.Need-returns-5
+erases c =
+    let e = c .before .before .before .before .before .before .before in
+    let a = e .before .before .before .before .before .args in
+    did-force (a .all) (a .effect) (a .payload .now) (a .memory .now) (a .marks .now) _ (e .enum-told2 .given .1) (c .before .before .before .before .force-erase .ensures)
+
 pub apply-spec : {M : Type 1} → statement M
 apply-spec =
     tie.close
     (tie.spec
     (λ c. search needs)
+    (λ c. search needs)
+    (λ c κs. search needs)
     (λ c. search needs)
     (λ c κs. search needs)
     (λ c. search needs)
@@ -45,4 +53,7 @@ apply-spec =
     (λ c. search needs)
     sweeps
     (λ c. search needs)
-    protects)
+    protects
+    (λ c. search needs)
+    (λ c. search needs)
+    erases)

@@ -1,25 +1,26 @@
 -- Bytes are zeroed from the front: at the loop's head the first `i` are.
 use mathlib.Core.Path.{_≡_, refl, ap, _∙_}
-use mathlib.Core.List.{List, _++_}
+use mathlib.Core.List.{List}
 use Prim.Native.Nat.{ℕ, _-_, _≤_}
 use native.Mathlib.Omega.{arith}
-use lib.ListN.{length, drop, replicate, set, length-set}
-use Rattle.card_effect.proofs.Sweeps.{zero-more, zero-all}
+use lib.ListN.{length, set, length-set}
+use Rattle.card_effect.specs.Apply.{zeroed}
+use Rattle.card_effect.proofs.Sweeps.{zero-more}
 use Rattle.card_effect.proofs.zero.Statement.{statement}
 use Rattle.card_effect.proofs.zero.Tie as tie
 
 abbrev Inv-loop : tie.InvT-loop
-Inv-loop keep part₀ i₀ part i = (i ≤ length part₀) × (length part ≡ length part₀) × (part ≡ replicate i 0 ++ drop i part₀)
+Inv-loop kept part₀ i₀ part i = (i ≤ length part₀ - kept) × (length part ≡ length part₀) × (part ≡ zeroed i part₀)
 
 abbrev μ-loop : tie.MeasureT-loop
-μ-loop keep part₀ i₀ part i = length part₀ - i
+μ-loop kept part₀ i₀ part i = length part₀ - i
 
 pub zero-spec : {M : Type 1} → statement M
 zero-spec =
     tie.close
     (tie.spec Inv-loop μ-loop
-    (λ c. simp (c .if1 .taken))
     (λ c. (omega arith, refl, refl))
+    (λ c. omega arith)
     (λ c. omega arith)
     (λ c. omega arith)
     (λ c. omega arith)
@@ -29,4 +30,6 @@ zero-spec =
     (λ c. c .before .loop .inv .1)
     (λ c.
     let at = c .before .loop in
-    rw (c .before .before .if1 .left) (at .inv .2 ∙ zero-all _ (at .i) (at .inv .0) (omega arith))))
+    let a = c .before .before .args in
+    let e : at .i ≡ length (a .part .now) - a .kept = omega arith in
+    at .inv .2 ∙ ap (λ (n : ℕ). zeroed n (a .part .now)) e))

@@ -14,7 +14,7 @@ skipped-spec =
     (tie.spec
     (λ c κs. search needs)
     (λ c.
-    let marks = c .before .before .before .good .0 .1 .1 .1 .1 .1 .1 .1 .1 .1 .0 in
+    let marks = c .before .before .before .good .0 .1 .1 .1 .1 .1 .1 .1 .1 .1 .1 .0 in
     search needs)
     (λ c κs. search needs)
     (λ c κs. search needs)

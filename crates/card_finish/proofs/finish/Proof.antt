@@ -25,4 +25,4 @@ finish-spec =
     finished (a .command) (a .state) (a .done) _ _ _
     (c .with-app .ensures ∙ ap₂ (λ (x : Core) (b : Bool). withApp x b) (c .before .before .cleared .ensures) (c .before .sets-app .ensures))
     (s .before .before .index .ensures)
-    (s .status .ensures ∙ ap (status (a .done .core .kept) (a .state)) (s .before .shows-app .ensures))))
+    (s .status .ensures ∙ ap (status (a .done .core .kept) (a .done .core .locked) (a .state)) (s .before .shows-app .ensures))))

@@ -1,4 +1,4 @@
--- The record and the line.
+-- The core and the line.
 use mathlib.Core.Path.{ap₂}
 use borrow.Author.Needs.{needs}
 use Rattle.card.specs.declared.Core.{Core}
@@ -13,4 +13,6 @@ kept-spec =
     (tie.spec
     (λ c κs. search needs)
     (λ c κs. search needs)
-    (λ c. ap₂ {C = Card} (λ (x : Core) (l : Line). record { core = x; line = l }) (c .before .with-marks .ensures) (c .flagged .ensures)))
+    (λ c.
+    let a = c .before .before .args in
+    ap₂ {C = Card} (λ (x : Core) (l : Line). record { core = x; password = a .password; line = l }) (c .before .with-marks .ensures) (c .flagged .ensures)))

@@ -24,11 +24,11 @@ opened n = n .before .before .before .before
 
 rows : (n : tie.After-refusal) → let args = start n .args in
     n .before .before .rows .result
-    ≡ rowsOf (args .card .core) (length (args .memory .now)) false false (not (busy (openOf (args .card .core .bus .state))))
+    ≡ rowsOf (args .card .core) (args .card .password .length) (length (args .memory .now)) false false (not (busy (openOf (args .card .core .bus .state))))
 rows n =
     let args = start n .args in
     n .before .before .rows .ensures
-    ∙ ap (λ (b : Bool). rowsOf (args .card .core) (length (args .memory .now)) false false (not b))
+    ∙ ap (λ (b : Bool). rowsOf (args .card .core) (args .card .password .length) (length (args .memory .now)) false false (not b))
     (n .before .before .before .busy .ensures ∙ ap busy (opened n .«open» .ensures))
 
 no : tie.Need-returns

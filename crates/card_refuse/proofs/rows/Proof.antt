@@ -9,4 +9,5 @@ rows-spec =
     (tie.spec
     (λ c κs. search needs)
     (λ c κs. search needs)
-    (λ c. rw (c .before .unsound .ensures, c .capacity .ensures)))
+    (λ c κs. search needs)
+    (λ c. rw (c .before .before .unsound .ensures, c .before .bad-password .ensures, c .capacity .ensures)))

@@ -10,7 +10,7 @@ use Rattle.card_send.proofs.send_marks.Tie as tie
 lent : tie.Need-slice-aggregate-mark-word
 lent c =
     let core = c .before .before .before .good .0 .1 .1 .0 in
-    let marks = core .1 .1 .1 .1 .1 .1 .1 .1 .1 .0 in
+    let marks = core .1 .1 .1 .1 .1 .1 .1 .1 .1 .1 .0 in
     search needs
 
 sent : tie.Need-returns

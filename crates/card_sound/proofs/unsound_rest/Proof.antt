@@ -86,7 +86,7 @@ unsound-rest-spec =
     (λ c κs. search needs)
     (λ c κs. search needs)
     (λ c. past-second (c .before .before .before) _ (holds _ _ (sym (rca-is (c .before)) ∙ c .if5 .taken)))
-    (λ c. search (c .before .before .before .before .before .before .before .before .before .before .before .before .before .before .before .before .before .before .good .0 .1 .1 .1 .1 .1 .1 .1 .1 .1 .0, needs))
+    (λ c. search (c .before .before .before .before .before .before .before .before .before .before .before .before .before .before .before .before .before .before .good .0 .1 .1 .1 .1 .1 .1 .1 .1 .1 .1 .0, needs))
     (λ c κs. search needs)
     (λ c κs. search needs)
     (λ c. past-rca (c .before .before .before .before .before) _ (holds _ _ (sym (marked-is (c .before)) ∙ c .if6 .taken)))

@@ -28,11 +28,11 @@ opened n = n .before .before .before .before
 
 rows : (n : tie.After-refusal) → let args = start n .args in
     n .before .before .rows .result
-    ≡ rowsOf (args .card .core) (length (args .memory .now)) false (ltb (length (args .out .now)) (blockRoom (args .card .core))) (not (reading (openOf (args .card .core .bus .state))))
+    ≡ rowsOf (args .card .core) (args .card .password .length) (length (args .memory .now)) false (ltb (length (args .out .now)) (blockRoom (args .card .core))) (not (reading (openOf (args .card .core .bus .state))))
 rows n =
     let args = start n .args in
     n .before .before .rows .ensures
-    ∙ ap (λ (b : Bool). rowsOf (args .card .core) (length (args .memory .now)) false (ltb (length (args .out .now)) (blockRoom (args .card .core))) (not b))
+    ∙ ap (λ (b : Bool). rowsOf (args .card .core) (args .card .password .length) (length (args .memory .now)) false (ltb (length (args .out .now)) (blockRoom (args .card .core))) (not b))
     (n .before .before .before .reading .ensures ∙ ap reading (opened n .«open» .ensures))
 
 no : tie.Need-returns
@@ -86,7 +86,7 @@ take-spec =
     (λ c. search needs)
     (λ c κs.
     let e = c .before .before .before .before in
-    takes _ _ _ _ (none-applies _ _ _ _ (e .before .refusal .ensures) (rows (e .before)) (e .if1 .left)))
+    takes _ _ _ _ _ (none-applies _ _ _ _ (e .before .refusal .ensures) (rows (e .before)) (e .if1 .left)))
     (λ c. search needs)
     sent
     other)

@@ -89,13 +89,13 @@ stored c =
 lent : tie.Need-slice-aggregate-guarded
 lent c =
     let core = c .before .before .before .before .before .good .0 .1 .1 .0 in
-    let marks = core .1 .1 .1 .1 .1 .1 .1 .1 .1 .0 in
+    let marks = core .1 .1 .1 .1 .1 .1 .1 .1 .1 .1 .0 in
     search needs
 
 lent-on : tie.Need-slice-aggregate-apply
 lent-on c =
     let core = c .before .before .before .before .before .before .before .before .before .before .before .good .0 .1 .1 .0 in
-    let marks = core .1 .1 .1 .1 .1 .1 .1 .1 .1 .0 in
+    let marks = core .1 .1 .1 .1 .1 .1 .1 .1 .1 .1 .0 in
     search needs
 
 pub place-spec : {M : Type 1} → statement M

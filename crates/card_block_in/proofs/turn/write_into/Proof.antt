@@ -24,15 +24,15 @@ abbrev start : tie.After-decode → tie.Start
 start d = d .before .before .before .before .before
 
 wrong : (d : tie.After-decode) → (d .decode .last .1 .0 ≡ 0 → ⊥) → packetRight (start d .args .block .now) ≡ false
-wrong d n = Blocks.wrong (start d .args .block .now) (start d .pre .1) (λ z. n (d .decode .ensures .0 ∙ z))
+wrong d n = Blocks.wrong (start d .args .block .now) (Blocks.decodes _ (start d .pre .1)) (λ z. n (d .decode .ensures .0 ∙ z))
 
 right : (d : tie.After-decode) → d .decode .last .1 .0 ≡ 0 → packetRight (start d .args .block .now) ≡ true
-right d z = Blocks.right (start d .args .block .now) (start d .pre .1) (sym (d .decode .ensures .0) ∙ z)
+right d z = Blocks.right (start d .args .block .now) (Blocks.decodes _ (start d .pre .1)) (sym (d .decode .ensures .0) ∙ z)
 
 payload : (e : tie.Else2) → e .before .decode .result .now ≡ payloadOf (start (e .before) .args .block .now)
 payload e =
     let d = e .before in
-    d .decode .ensures .1 ∙ Blocks.payload (start d .args .block .now) (start d .pre .1) (sym (d .decode .ensures .0) ∙ e .if2 .left)
+    d .decode .ensures .1 ∙ Blocks.payload (start d .args .block .now) (Blocks.decodes _ (start d .pre .1)) (sym (d .decode .ensures .0) ∙ e .if2 .left)
 
 long : (e : tie.Else2) → length (e .before .decode .result .now) ≡ BLOCK
 long e = ap length (payload e) ∙ Blocks.length-payload (start (e .before) .args .block .now) (start (e .before) .pre .1)

@@ -14,5 +14,5 @@ written-most-spec =
     (λ c. search needs)
     (λ c. search needs)
     (λ c. search needs)
-    (λ c. rw (c .before .before .o .given .1, c .sink-address .ensures))
+    (λ c. rw (c .before .before .o .given .1, c .sink-most .ensures))
     (λ c. search needs))

@@ -27,4 +27,6 @@ kept-bits-spec =
     (λ c. omega arith)
     (λ c κs. search needs)
     (λ c. omega arith)
-    (λ c. (omega (arith, c .before .before .before .before .before .before .before .before .bit .ensures .0, c .before .before .before .before .before .before .before .bit2 .ensures .0, c .before .before .before .before .before .before .bit3 .ensures .0, c .before .before .before .before .before .bit4 .ensures .0, c .before .before .before .before .bit5 .ensures .0, c .before .before .before .bit6 .ensures .0, c .before .before .bit7 .ensures .0, c .before .bit8 .ensures .0, c .bit9 .ensures .0), omega arith)))
+    (λ c κs. search needs)
+    (λ c. omega arith)
+    (λ c. (omega (arith, c .before .before .before .before .before .before .before .before .before .bit .ensures .0, c .before .before .before .before .before .before .before .before .bit2 .ensures .0, c .before .before .before .before .before .before .before .bit3 .ensures .0, c .before .before .before .before .before .before .bit4 .ensures .0, c .before .before .before .before .before .bit5 .ensures .0, c .before .before .before .before .bit6 .ensures .0, c .before .before .before .bit7 .ensures .0, c .before .before .bit8 .ensures .0, c .before .bit9 .ensures .0, c .bit10 .ensures .0), omega arith)))

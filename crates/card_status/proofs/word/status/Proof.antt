@@ -1,4 +1,4 @@
--- The state and two bits are added below the kept ones.
+-- The lock, the state and two bits are added to the kept ones.
 use mathlib.Core.Path.{ap, _∙_}
 use native.Mathlib.Omega.{arith}
 use borrow.Author.Needs.{needs}
@@ -12,6 +12,8 @@ status-spec =
     tie.close
     (tie.spec
     (λ c κs. search needs)
+    (λ c κs. search needs)
+    (λ c. omega arith)
     (λ c. search needs)
     (λ c. omega arith)
     (λ c κs. search needs)
@@ -20,6 +22,6 @@ status-spec =
     (λ c κs. search needs)
     (λ c. omega arith)
     (λ c.
-    let kept = c .before .before .before .kept-bits in
-    let ready = c .before .bit .ensures .0 ∙ ap (at 8) (c .before .before .ready-for .ensures) in
-    omega (arith, kept .ensures .0, ready, c .bit2 .ensures .0)))
+    let kept = c .before .before .before .before .kept-bits in
+    let ready = c .before .bit2 .ensures .0 ∙ ap (at 8) (c .before .before .ready-for .ensures) in
+    omega (arith, kept .ensures .0, c .before .before .before .bit .ensures .0, ready, c .bit3 .ensures .0)))

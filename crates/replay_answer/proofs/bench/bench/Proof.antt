@@ -10,7 +10,9 @@ bench-spec =
     (tie.spec
     (λ c κs. search needs)
     (λ c κs. search needs)
+    (λ c κs. search needs)
     (λ c.
-    let memory = c .before .before .before .before .args .memory .now in
+    let none = c .before .before .before in
+    let memory = none .before .before .args .memory .now in
     let call = c .before .power-up in
-    powered _ memory (call .result) (search needs) (call .ensures)))
+    powered _ memory (none .no-password .result) (call .result) (search needs) (none .no-password .ensures) (call .ensures)))

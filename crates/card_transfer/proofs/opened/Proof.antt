@@ -4,11 +4,11 @@ use Rattle.card.specs.declared.Core.{Core}
 use Rattle.card.specs.declared.done.Response.the-variants.{R1}
 use Rattle.card.specs.Execute.{ran}
 use borrow.Author.Needs.{needs}
-use Rattle.card_transfer.proofs.send.Statement.{statement}
-use Rattle.card_transfer.proofs.send.Tie as tie
+use Rattle.card_transfer.proofs.opened.Statement.{statement}
+use Rattle.card_transfer.proofs.opened.Tie as tie
 
-pub send-spec : {M : Type 1} → statement M
-send-spec =
+pub opened-spec : {M : Type 1} → statement M
+opened-spec =
     tie.close
     (tie.spec
     (λ c κs. search needs)

@@ -1,0 +1,2 @@
+-- The room that a password has.
+pub mod Fits

@@ -1,0 +1,2 @@
+-- What an operation that succeeds or fails leaves.
+pub mod Blocks
