@@ -4,10 +4,10 @@ use Prim.Native.Nat.{_≤_, _-_}
 use native.Mathlib.Omega.{arith}
 use borrow.Author.Needs.{needs}
 use lib.ListN.{length, drop}
 use Rattle.replay_session.specs.Session.{heardAll, session}
-use Rattle.replay_session.proofs.Heard.{ends-line, keeps-byte, next-byte, all-heard}
-use Rattle.replay_session.proofs.hear_all.Statement.{statement}
-use Rattle.replay_session.proofs.hear_all.Tie as tie
+use Rattle.replay_hear.proofs.Heard.{ends-line, keeps-byte, next-byte, all-heard}
+use Rattle.replay_hear.proofs.hear_all.Statement.{statement}
+use Rattle.replay_hear.proofs.hear_all.Tie as tie
 
 abbrev Inv-loop : tie.InvT-loop
 Inv-loop memory₀ line₀ text₀ chunk now₀ i₀ memory line text now i =

@@ -1,0 +1,2 @@
+-- A session, byte by byte.
+pub mod Heard
