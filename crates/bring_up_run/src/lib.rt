@@ -2,7 +2,6 @@
 ghost use Prim.Native.Nat.{_≤_};
 ghost use lib.ListN.{length};
 
-mod end;
 mod input;
 
 use bring_up_line::answer::AnswerRead;
@@ -58,7 +57,7 @@ fn bring_up(fd: i32, begun: Host) {
         let answer = stepped.answer;
         let Answer::Sent(n) = answer else {
             let found = host.found;
-            end::ended(answer, found, host.polls);
+            bring_up_end::ended(answer, found, host.polls);
             return;
         };
         send(&out, n);
@@ -67,7 +66,7 @@ fn bring_up(fd: i32, begun: Host) {
         let read = heard.answer;
         let AnswerRead::Bytes(count) = read else {
             let phase = host.phase;
-            end::no_answer(phase);
+            bring_up_end::no_answer(phase);
             return;
         };
         size = count;

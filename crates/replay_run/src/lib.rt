@@ -2,9 +2,9 @@
 use replay_answer::Session;
 use replay_answer::bench::bench;
 use replay_answer::bench::blank;
-use replay_hear::hear_all;
 use replay_read::fill;
 use replay_read::front;
+use replay_session::hear_all;
 use replay_write::mebibyte;
 
 // A proved loop has to end: it counts its reads down from a number that no run uses up. The answers of a read are written at once.

@@ -2,8 +2,8 @@
 use mathlib.Core.Path.{sym}
 use borrow.Author.Needs.{needs}
 use lib.Seq.{length-take-le}
-use Rattle.console_play.proofs.play.Statement.{statement}
-use Rattle.console_play.proofs.play.Tie as tie
+use Rattle.console_line.proofs.play.Statement.{statement}
+use Rattle.console_line.proofs.play.Tie as tie
 
 pub play-spec : {M : Type 1} → statement M
 play-spec =

@@ -4,9 +4,9 @@ use native.Mathlib.Omega.{arith}
 use borrow.Author.Needs.{needs}
 use borrow.Author.Tests.{le-leb, lt-leb}
 use lib.Pow.{shl-exact}
-use Rattle.bring_up_line.specs.Blocks.{blockCount}
-use Rattle.bring_up_line.proofs.blocks.blocks.Statement.{statement}
-use Rattle.bring_up_line.proofs.blocks.blocks.Tie as tie
+use Rattle.bring_up_end.specs.Blocks.{blockCount}
+use Rattle.bring_up_end.proofs.blocks.blocks.Statement.{statement}
+use Rattle.bring_up_end.proofs.blocks.blocks.Tie as tie
 
 pub blocks-spec : {M : Type 1} → statement M
 unfolding blockCount

@@ -1,6 +1,6 @@
 // The block count of a card.
 ghost use mathlib.Core.Path.{_≡_};
-ghost use Rattle.bring_up_line.specs.Blocks.{blockCount};
+ghost use Rattle.bring_up_end.specs.Blocks.{blockCount};
 
 // By C_SIZE and C_SIZE_MULT of its CSD; 0 where one is wider than the register has it.
 pub fn blocks(size: u16, mult: u8) -> u32

@@ -1,5 +1,7 @@
-// The last line: how it ended.
-use bring_up_line::blocks::blocks;
+// The last line of the host's program: how it ended.
+pub mod blocks;
+
+use blocks::blocks;
 use host::Answer;
 use host::Command;
 use host::Found;
@@ -73,7 +75,7 @@ fn why(reason: Reason) {
 }
 
 // The line of an answer that is no frame. No step is refused here: the limit was accepted, and the buffer has room.
-pub(crate) fn ended(answer: Answer, found: Found, polls: u16) {
+pub fn ended(answer: Answer, found: Found, polls: u16) {
     match answer {
         Answer::Selected => selected(found, polls),
         Answer::Stopped { command, reason } => {
@@ -90,7 +92,7 @@ pub(crate) fn ended(answer: Answer, found: Found, polls: u16) {
 }
 
 // The card's line is no answer to the command that was sent, or the input has ended.
-pub(crate) fn no_answer(phase: Phase) {
+pub fn no_answer(phase: Phase) {
     let Phase::Sent(command) = phase else {
         return;
     };

@@ -1,0 +1,2 @@
+-- The block count that the last line shows.
+pub mod Blocks

@@ -1,2 +1,0 @@
--- A session, byte by byte.
-pub mod Heard
