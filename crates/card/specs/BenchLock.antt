@@ -26,9 +26,9 @@ protected permanent temporary = record {
   temporary = temporary;
 }
 
--- after a power-up with a password; memory is not all zero
+-- after a power-up with a password; the first byte of memory and the last are not zero
 abbrev pub powered : Settings → Password → World
-powered s p = world (start s p) (0x5A ∷ replicate 2047 0)
+powered s p = world (start s p) (0x5A ∷ (replicate 2046 0 ++ (0x5A ∷ [])))
 
 -- "ABCD", and the card that has it
 abbrev pub ABCD : Password
@@ -129,10 +129,8 @@ lockExamples =
     ∷ 0x4D0001000053 shows 0x0D02000E0051
     ∷ overs
     ∷ on-locked unlock unlocked
-    (length-512
-    ∷ 0x510000000055 shows 0x110000090067
-    ∷ taking (zeros 512)
-    ∷ length-6
+    (0x510000000055 shows 0x110000090067
+    ∷ taking (zeros 6)
     ∷ on-unlocked clear-password unlocked (on-unlocked lock unlocked-failed []))))))
     -- a prefix of the password, and its first byte with others behind it, do not unlock
     ∷ on small (selected
@@ -169,11 +167,13 @@ lockExamples =
     (locked-length 0x50000000012B
     ∷ on-locked (given 3 0x189339) unlocked
     (csd-shows (protected false false)
-    (length-512
-    ∷ 0x510000000055 shows 0x110000090067
-    ∷ taking (zeros 512)
+    (0x510000000055 shows 0x110000090067
+    ∷ taking (zeros 1)
+    ∷ 0x51000007FFC5 shows 0x110000090067
+    ∷ taking (zeros 1)
+    ∷ length-512
     ∷ 0x58000000006F shows 0x18000009005D
-    ∷ writing block
+    ∷ 0x4C0000000061 shows 0x0C00000D000B
     ∷ overs
     ∷ 0x50000000012B shows 0x10000009000B
     ∷ on-unlocked force-erase unlocked-failed

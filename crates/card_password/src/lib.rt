@@ -50,20 +50,20 @@ pub fn kept(password: Password) -> Password
     store(front(&bytes, n))
 }
 
+// All bytes are looked at, so that the time does not tell how many are right.
 fn same(a: &[u8], b: &[u8]) -> bool
     ensures { λ r. ⌜ r ≡ equal (now (a .entry)) (now (b .entry)) ⌝ }
 {
     if a.len() != b.len() {
         return false;
     }
+    let mut right = true;
     let mut i: usize = 0;
     while i < a.len() {
-        if a[i] != b[i] {
-            return false;
-        }
+        right = right & (a[i] == b[i]);
         i += 1;
     }
-    true
+    right
 }
 
 // The data starts with the password.
