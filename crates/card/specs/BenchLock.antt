@@ -1,5 +1,5 @@
--- The readings of the lock (02, order 4): passwords, the locked card, force erase. The blocks and their checks are those of 003's lock
--- section for the password ABCD.
+-- The readings of the lock (02, order 4): passwords, the locked card, force erase. The blocks have the form of 003's lock section, for
+-- the password ABCD; their checks were worked out apart.
 use mathlib.Core.Bool.{Bool, true, false}
 use mathlib.Core.List.{List, [], _∷_, _++_}
 use Prim.Native.Nat.{ℕ, _+_, _*_}
