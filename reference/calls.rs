@@ -23,7 +23,8 @@ pub struct Power {
 }
 
 pub enum Call {
-    Cmd([u8; 6], Frame),
+    /// Chip select is low or not.
+    Cmd([u8; 6], Frame, bool),
     /// Of any size, which the card judges.
     Blk(Vec<u8>),
     Take,
@@ -38,12 +39,21 @@ impl Call {
         let mut frame = [0x40 | index, 0, 0, 0, 0, 0];
         frame[1..5].copy_from_slice(&argument.to_be_bytes());
         frame[5] = crc7(&frame[..5]) << 1 | 1;
-        Call::Cmd(frame, Frame::Sound)
+        Call::Cmd(frame, Frame::Sound, false)
+    }
+
+    /// With chip select low or high, if it is a frame.
+    pub fn selected(self, is_low: bool) -> Call {
+        match self {
+            Call::Cmd(frame, kind, _) => Call::Cmd(frame, kind, is_low),
+            call => call,
+        }
     }
 
     pub fn line(&self) -> Vec<u8> {
         match self {
-            Call::Cmd(frame, _) => line(b"cmd", &[frame]),
+            Call::Cmd(frame, _, false) => line(b"cmd", &[frame]),
+            Call::Cmd(frame, _, true) => line(b"low", &[frame]),
             Call::Blk(packet) => line(b"blk", &[packet]),
             Call::Take => b"take".to_vec(),
             Call::Over => b"over".to_vec(),
@@ -55,13 +65,15 @@ impl Call {
 
     pub fn name(&self) -> String {
         match self {
-            Call::Cmd(frame, Frame::Sound) => {
+            Call::Cmd(frame, Frame::Sound, _) => {
                 let argument = u32::from_be_bytes([frame[1], frame[2], frame[3], frame[4]]);
                 format!("{} {argument:X}h", frame[0] & 0x3F)
             }
-            Call::Cmd(_, Frame::Damaged) => "damaged".into(),
-            Call::Cmd(_, Frame::Noise) => "noise".into(),
-            Call::Blk(packet) if is_good(packet) => format!("block of {}", packet.len()),
+            Call::Cmd(_, Frame::Damaged, _) => "damaged".into(),
+            Call::Cmd(_, Frame::Noise, _) => "noise".into(),
+            Call::Blk(packet) if is_good(packet) || packet.get(1..).is_some_and(is_good) => {
+                format!("block of {}", packet.len())
+            }
             Call::Blk(packet) => format!("bad block of {}", packet.len()),
             Call::Take => "take".into(),
             Call::Over => "over".into(),
@@ -130,7 +142,7 @@ pub fn is_readable(line: &[u8], is_console: bool) -> bool {
         (b"take" | b"over", []) | (b"cmd", [12]) | (b"blk", [1028]) => true,
         (b"blk", [size]) => is_console && size % 2 == 0 && *size <= 2 * LONGEST_BLOCK,
         (b"power", [8, 2, 30, 2, 2, 32]) => is_console && matches!(fields[3], b"00" | b"01" | b"02" | b"03"),
-        (b"mem", [8]) => is_console,
+        (b"mem", [8]) | (b"low", [12]) => is_console,
         _ => false,
     }
 }
@@ -289,11 +301,11 @@ pub fn noise(rng: &mut Rng) -> Call {
     if rng.chance(40) {
         frame[0] = frame[0] & 0x3F | 0x40;
     }
-    Call::Cmd(frame, Frame::Noise)
+    Call::Cmd(frame, Frame::Noise, false)
 }
 
 pub fn damage(rng: &mut Rng, call: Call) -> Call {
-    let Call::Cmd(mut frame, _) = call else {
+    let Call::Cmd(mut frame, _, is_low) = call else {
         return call;
     };
     match rng.below(10) {
@@ -302,10 +314,10 @@ pub fn damage(rng: &mut Rng, call: Call) -> Call {
         7..9 => burst(rng, &mut frame, 7),
         _ => burst(rng, &mut frame, 48),
     }
-    Call::Cmd(frame, Frame::Damaged)
+    Call::Cmd(frame, Frame::Damaged, is_low)
 }
 
-fn flip(rng: &mut Rng, bytes: &mut [u8], count: usize) {
+pub fn flip(rng: &mut Rng, bytes: &mut [u8], count: usize) {
     for _ in 0..count {
         let bit = rng.below(8 * bytes.len() as u64) as usize;
         bytes[bit / 8] ^= 0x80 >> (bit % 8);
@@ -323,7 +335,7 @@ fn burst(rng: &mut Rng, frame: &mut [u8; 6], width: u64) {
 
 const STRANGE: &[u8] = b"abcdefgG \r\t-.+\"\\\0\x01\x7F\x80\xC3\xFF";
 
-const WRONG: [&[u8]; 43] = [
+const WRONG: [&[u8]; 50] = [
     b"cmd",
     b"blk",
     b"cmd\t",
@@ -341,6 +353,13 @@ const WRONG: [&[u8]; 43] = [
     b"cmd\t40000000009500",
     b"cmd\t0x0000000095",
     b"cmd\t\t400000000095",
+    b"low",
+    b"low\t",
+    b"low\t400000000095",
+    b"low\t40000000009",
+    b"low\t400000000095\t",
+    b"low 400000000095",
+    b"LOW\t400000000095",
     b"ref\t1",
     b"#",
     b"take take",

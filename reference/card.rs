@@ -1,15 +1,22 @@
-//! Reference SD memory card: standard capacity, SD bus mode, one data line.
+//! Reference SD memory card: standard capacity, SD bus mode with one data line, and SPI mode.
 //!
 //! Written from papers 01 and 02, as a second opinion on the card proper. Names are those of the
-//! Physical Layer Specification; memory and output buffers belong to the caller. What a block of
-//! command 42 does is in lock.rs.
+//! Physical Layer Specification; memory and output buffers belong to the caller. Frames and responses
+//! of the modes are in sd.rs and spi.rs, what a block of command 42 does is in lock.rs.
 
 #![allow(dead_code)]
 
 #[path = "lock.rs"]
 mod lock;
+#[path = "registers.rs"]
+mod registers;
+#[path = "sd.rs"]
+mod sd;
+#[path = "spi.rs"]
+pub mod spi;
 
 pub use lock::{Password, LONGEST_PASSWORD};
+pub use spi::{Mode, SPI_BLOCK};
 
 pub const BLOCK: usize = 512;
 pub const PACKET: usize = BLOCK + 2;
@@ -35,7 +42,7 @@ pub const ERASE_RESET: u32 = 1 << 13;
 pub const READY_FOR_DATA: u32 = 1 << 8;
 pub const APP_CMD: u32 = 1 << 5;
 
-/// The kept bits of clear condition C; R1 is the only response that carries them.
+/// The kept bits of clear condition C.
 const CLEAR_BY_READ: u32 = OUT_OF_RANGE
     | ADDRESS_ERROR
     | BLOCK_LEN_ERROR
@@ -63,7 +70,7 @@ pub enum Refusal {
     Setting = 6,
 }
 
-/// What the data line answers to a block.
+/// What the data line answers to a block; in SPI it is a token (spi.rs).
 #[derive(Clone, Copy, Debug, PartialEq, Eq)]
 pub enum CrcStatus {
     Silence,
@@ -107,7 +114,7 @@ pub struct Settings {
     pub password: Password,
 }
 
-/// An open transfer. Only memory blocks can be held, so only they say so.
+/// An open transfer. Only memory blocks can be held, so only they say so. CSD and CID are blocks in SPI alone.
 #[derive(Clone, Copy, Debug, PartialEq, Eq)]
 pub enum Transfer {
     None,
@@ -116,6 +123,8 @@ pub enum Transfer {
     SdStatus,
     NumWrBlocks,
     Scr,
+    Csd,
+    Cid,
     Write { multiple: bool, address: u32, held: bool },
     LockUnlock,
 }
@@ -125,6 +134,8 @@ pub struct Card {
     /// As they are now: command 42 changes the password, force erase the temporary protection as well.
     pub settings: Settings,
     pub locked: bool,
+    pub mode: Mode,
+    /// SPI goes only by idle and prg of it.
     pub state: State,
     pub rca: u16,
     pub last_rca: u16,
@@ -165,6 +176,8 @@ pub enum Command {
     Erase,
     LockUnlock,
     AppCmd,
+    ReadOcr,
+    CrcOnOff,
     SdStatus,
     SendNumWrBlocks,
     SetWrBlkEraseCount,
@@ -173,21 +186,54 @@ pub enum Command {
     SendScr,
 }
 
-enum Response {
-    Silence,
-    R1,
-    R2([u8; 16]),
-    R3(u32),
-    R6,
-    R7(u32),
+impl Transfer {
+    pub fn is_read(self) -> bool {
+        !matches!(self, Transfer::None) && !self.is_write()
+    }
+
+    pub fn is_write(self) -> bool {
+        matches!(self, Transfer::Write { .. } | Transfer::LockUnlock)
+    }
 }
 
 impl Command {
-    /// Carries an RCA that must be the card's own. Command 7 does too, but means
-    /// something for either, so it is two commands.
-    fn is_addressed(self) -> bool {
+    /// What an index means in either mode. After 55 one that has an A row is only that.
+    fn of(index: u8, app_mark: bool) -> Option<Command> {
         use Command::*;
-        matches!(self, SendCsd | SendCid | SendStatus | GoInactiveState | AppCmd)
+        Some(match index {
+            13 if app_mark => SdStatus,
+            22 if app_mark => SendNumWrBlocks,
+            23 if app_mark => SetWrBlkEraseCount,
+            41 if app_mark => SdSendOpCond,
+            42 if app_mark => SetClrCardDetect,
+            51 if app_mark => SendScr,
+            0 => GoIdleState,
+            2 => AllSendCid,
+            3 => SendRelativeAddr,
+            7 => SelectCard,
+            8 => SendIfCond,
+            9 => SendCsd,
+            10 => SendCid,
+            12 => StopTransmission,
+            13 => SendStatus,
+            15 => GoInactiveState,
+            16 => SetBlocklen,
+            17 => ReadSingleBlock,
+            18 => ReadMultipleBlock,
+            24 => WriteBlock,
+            25 => WriteMultipleBlock,
+            28 => SetWriteProt,
+            29 => ClrWriteProt,
+            30 => SendWriteProt,
+            32 => EraseWrBlkStart,
+            33 => EraseWrBlkEnd,
+            38 => Erase,
+            42 => LockUnlock,
+            55 => AppCmd,
+            58 => ReadOcr,
+            59 => CrcOnOff,
+            _ => return None,
+        })
     }
 
     /// Any other command that runs clears pending erase marks. SEND_STATUS may come between them (02, order 1),
@@ -216,36 +262,15 @@ impl Command {
                 | SetBlocklen
                 | LockUnlock
                 | AppCmd
+                | ReadOcr
+                | CrcOnOff
                 | SdSendOpCond
                 | SetClrCardDetect
-        )
-    }
-
-    fn shows_app_cmd(self) -> bool {
-        use Command::*;
-        matches!(
-            self,
-            AppCmd
-                | SdStatus
-                | SendNumWrBlocks
-                | SetWrBlkEraseCount
-                | SdSendOpCond
-                | SetClrCardDetect
-                | SendScr
         )
     }
 }
 
 impl Settings {
-    /// C_SIZE and the smallest C_SIZE_MULT that give the block count.
-    fn c_size(&self) -> Option<(u32, u32)> {
-        (0..=7).find_map(|mult| {
-            let unit = 1 << (mult + 2);
-            let units = self.block_count / unit;
-            (self.block_count % unit == 0 && (1..=4096).contains(&units)).then(|| (units - 1, mult))
-        })
-    }
-
     pub fn are_allowed(&self) -> bool {
         (4..=65_536).contains(&self.block_count)
             && self.c_size().is_some()
@@ -256,63 +281,6 @@ impl Settings {
 
     fn fit(&self, memory: &[u8]) -> bool {
         memory.len() as u64 == u64::from(self.block_count) * BLOCK as u64
-    }
-
-    fn cid_register(&self) -> [u8; 16] {
-        let Cid { mid, oid, pnm, prv, psn, mdt } = self.cid;
-        let [p0, p1, p2, p3, p4] = pnm.map(u32::from);
-        register(&[
-            (8, u32::from(mid)),
-            (16, u32::from(oid)),
-            (8, p0),
-            (8, p1),
-            (8, p2),
-            (8, p3),
-            (8, p4),
-            (8, u32::from(prv)),
-            (32, psn),
-            (4, 0),
-            (12, u32::from(mdt)),
-        ])
-    }
-
-    fn csd_register(&self) -> [u8; 16] {
-        let (c_size, c_size_mult) = self.c_size().unwrap_or_default();
-        register(&[
-            (2, 0),      // CSD_STRUCTURE
-            (6, 0),      // reserved
-            (8, 0x26),   // TAAC
-            (8, 0),      // NSAC
-            (8, 0x32),   // TRAN_SPEED
-            (12, 0x1F5), // CCC
-            (4, 9),      // READ_BL_LEN
-            (1, 1),      // READ_BL_PARTIAL
-            (1, 0),      // WRITE_BLK_MISALIGN
-            (1, 0),      // READ_BLK_MISALIGN
-            (1, 0),      // DSR_IMP
-            (2, 0),      // reserved
-            (12, c_size),
-            (3, 0), // VDD_R_CURR_MIN
-            (3, 0), // VDD_R_CURR_MAX
-            (3, 0), // VDD_W_CURR_MIN
-            (3, 0), // VDD_W_CURR_MAX
-            (3, c_size_mult),
-            (1, 1),  // ERASE_BLK_EN
-            (7, 31), // SECTOR_SIZE
-            (7, 0),  // WP_GRP_SIZE
-            (1, 1),  // WP_GRP_ENABLE
-            (2, 0),  // reserved
-            (3, 0),  // R2W_FACTOR
-            (4, 9),  // WRITE_BL_LEN
-            (1, 0),  // WRITE_BL_PARTIAL
-            (5, 0),  // reserved
-            (1, 0),  // FILE_FORMAT_GRP
-            (1, 0),  // COPY
-            (1, u32::from(self.perm_write_protect)),
-            (1, u32::from(self.tmp_write_protect)),
-            (2, 0), // FILE_FORMAT
-            (2, 0), // reserved
-        ])
     }
 }
 
@@ -330,6 +298,7 @@ impl Card {
         Ok(Card {
             settings,
             locked: settings.password.is_set(),
+            mode: Mode::Sd,
             state: State::Idle,
             rca: 0,
             last_rca: 0,
@@ -345,11 +314,12 @@ impl Card {
         })
     }
 
-    /// Gives the length of the response written to `out`; 0 is silence.
+    /// `low` is chip select. Gives the length of the response written to `out`; 0 is silence.
     /// Refusals 1, 2, 3, 4.
     pub fn command_frame(
         &mut self,
         frame: &[u8],
+        low: bool,
         memory: &mut [u8],
         out: &mut [u8],
     ) -> Result<usize, Refusal> {
@@ -358,68 +328,45 @@ impl Card {
         if out.len() < LONGEST_RESPONSE {
             return Err(Refusal::Output);
         }
-        Ok(self.receive(frame, memory, out))
-    }
-
-    /// Refusals 2, 1, 3, 5.
-    pub fn block_in(&mut self, packet: &[u8], memory: &mut [u8]) -> Result<CrcStatus, Refusal> {
-        self.check_sound()?;
-        if packet.len() != self.packet_size() {
-            return Err(Refusal::Size);
-        }
-        self.check_memory(memory)?;
-        let (payload, check) = packet.split_at(packet.len() - CHECK);
-        let is_good = check == crc16(payload).to_be_bytes();
-        Ok(match self.transfer {
-            Transfer::Write { held: true, .. } => CrcStatus::Silence,
-            Transfer::Write { multiple: true, .. } if !is_good => {
-                self.hold(0);
-                CrcStatus::Rejected
-            }
-            Transfer::Write { .. } | Transfer::LockUnlock if !is_good => {
-                self.leave_transfer(State::Tran);
-                CrcStatus::Rejected
-            }
-            Transfer::Write { multiple, address, .. } => self.store(multiple, address, payload, memory),
-            Transfer::LockUnlock => {
-                self.lock_unlock(payload, memory);
-                self.leave_transfer(State::Prg);
-                CrcStatus::Accepted
-            }
-            _ => return Err(Refusal::State),
+        Ok(match self.mode {
+            Mode::Sd => self.receive_sd(frame, low, memory, out),
+            Mode::Spi { crc_on } => self.receive_spi(frame, crc_on, memory, out),
         })
     }
 
-    /// Gives the length of the packet written to `out`; 0 is silence.
+    /// Refusals 2, 1, 3, 5.
+    pub fn block_in(&mut self, block: &[u8], memory: &mut [u8]) -> Result<CrcStatus, Refusal> {
+        self.check_sound()?;
+        if !self.is_due(block.len()) {
+            return Err(Refusal::Size);
+        }
+        self.check_memory(memory)?;
+        if !self.transfer.is_write() {
+            return Err(Refusal::State);
+        }
+        Ok(match self.mode {
+            Mode::Sd => self.packet_in(block, true, memory),
+            Mode::Spi { crc_on } => self.block_in_spi(block, crc_on, memory),
+        })
+    }
+
+    /// Gives the length of the block written to `out`; 0 is silence.
     /// Refusals 2, 3, 4, 5.
     pub fn take(&mut self, memory: &[u8], out: &mut [u8]) -> Result<usize, Refusal> {
         self.check_record(memory)?;
-        if out.len() < PACKET {
+        let lead = self.mode.lead();
+        if out.len() < lead.len() + PACKET {
             return Err(Refusal::Output);
         }
-        match self.transfer {
-            Transfer::None | Transfer::Write { .. } | Transfer::LockUnlock => Err(Refusal::State),
-            Transfer::Read { held: true, .. } => Ok(0),
-            Transfer::Read { multiple, address, held } => {
-                if let Err(error) = self.check_read(address) {
-                    self.hold(error);
-                    return Ok(0);
-                }
-                if multiple {
-                    let address = address + self.block_len;
-                    self.transfer = Transfer::Read { multiple, address, held };
-                } else {
-                    self.leave_transfer(State::Tran);
-                }
-                Ok(send(&memory[address as usize..][..self.block_len as usize], out))
-            }
-            Transfer::WriteProt { address } => {
-                Ok(self.send_register(&self.write_prot_bits(address).to_be_bytes(), out))
-            }
-            Transfer::SdStatus => Ok(self.send_register(&[0; 64], out)),
-            Transfer::NumWrBlocks => Ok(self.send_register(&self.num_wr_blocks.to_be_bytes(), out)),
-            Transfer::Scr => Ok(self.send_register(&SCR, out)),
+        if !self.transfer.is_read() {
+            return Err(Refusal::State);
         }
+        let length = self.next_packet(memory, &mut out[lead.len()..]);
+        if length == 0 {
+            return Ok(0);
+        }
+        out[..lead.len()].copy_from_slice(lead);
+        Ok(lead.len() + length)
     }
 
     /// Refusals 2, 3, 5.
@@ -468,33 +415,19 @@ impl Card {
             && self.status & !KEPT == 0
             && self.erase_start.is_none_or(|address| address < self.capacity())
             && self.erase_end.is_none_or(|address| address < self.capacity())
-            && self.rca_is_sound()
             && self.write_prot_is_sound()
-            && !(self.app_mark && matches!(self.state, State::Ready | State::Ident | State::Ina))
+            && (self.mode != Mode::Sd || self.bus_state_is_sound())
     }
 
     fn transfer_is_sound(&self) -> bool {
         match self.transfer {
-            Transfer::None => !matches!(self.state, State::Data | State::Rcv),
-            Transfer::Read { address, .. } | Transfer::WriteProt { address } => {
-                self.state == State::Data && address <= self.capacity()
-            }
-            Transfer::SdStatus | Transfer::NumWrBlocks | Transfer::Scr => self.state == State::Data,
+            Transfer::Read { address, .. } | Transfer::WriteProt { address } => address <= self.capacity(),
             Transfer::Write { address, .. } => {
-                self.state == State::Rcv
-                    && address <= self.capacity()
+                address <= self.capacity()
                     && address % BLOCK_BYTES == 0
                     && self.num_wr_blocks <= address / BLOCK_BYTES
             }
-            Transfer::LockUnlock => self.state == State::Rcv,
-        }
-    }
-
-    fn rca_is_sound(&self) -> bool {
-        match self.state {
-            State::Idle | State::Ready | State::Ident => self.rca == 0,
-            State::Ina => true,
-            _ => self.rca != 0,
+            _ => true,
         }
     }
 
@@ -505,217 +438,211 @@ impl Card {
     }
 }
 
-// The frame rules.
+// The commands that both modes have.
 impl Card {
-    fn receive(&mut self, frame: &[u8; 6], memory: &mut [u8], out: &mut [u8]) -> usize {
-        if self.state == State::Ina || frame[0] >> 6 != 0b01 {
-            return 0;
-        }
-        if frame[5] != crc7(&frame[..5]) << 1 | 1 {
-            self.status |= COM_CRC_ERROR;
-            return 0;
-        }
-        let index = frame[0] & 0x3F;
-        let argument = u32::from_be_bytes([frame[1], frame[2], frame[3], frame[4]]);
-        let Some(command) = self.command(index, argument) else {
-            self.status |= ILLEGAL_COMMAND;
-            self.app_mark = false;
-            return 0;
-        };
-        if command.is_addressed() && !self.is_own(argument) {
-            self.app_mark = false;
-            return 0;
-        }
-        self.run(command, index, argument, memory, out)
-    }
-
-    /// The transition table, read from the left: the command that the frame is in
-    /// this state, or none if it is not allowed here.
-    fn command(&self, index: u8, argument: u32) -> Option<Command> {
-        use {Command::*, State::*};
-        let state = self.state;
-        let (command, allowed) = match index {
-            13 if self.app_mark => (SdStatus, state == Tran),
-            22 if self.app_mark => (SendNumWrBlocks, state == Tran),
-            23 if self.app_mark => (SetWrBlkEraseCount, state == Tran),
-            41 if self.app_mark => (SdSendOpCond, state == Idle),
-            42 if self.app_mark => (SetClrCardDetect, state == Tran),
-            51 if self.app_mark => (SendScr, state == Tran),
-            0 => (GoIdleState, state != Ina),
-            2 => (AllSendCid, state == Ready),
-            3 => (SendRelativeAddr, matches!(state, Ident | Stby)),
-            7 if self.is_own(argument) => (SelectCard, matches!(state, Stby | Dis)),
-            7 => (DeselectCard, matches!(state, Stby | Tran | Data | Prg)),
-            8 => (SendIfCond, state == Idle),
-            9 => (SendCsd, state == Stby),
-            10 => (SendCid, state == Stby),
-            12 => (StopTransmission, matches!(state, Data | Rcv)),
-            13 => (SendStatus, matches!(state, Stby | Tran | Data | Rcv | Prg | Dis)),
-            15 => (GoInactiveState, matches!(state, Stby | Tran | Data | Rcv | Prg | Dis)),
-            16 => (SetBlocklen, state == Tran),
-            17 => (ReadSingleBlock, state == Tran),
-            18 => (ReadMultipleBlock, state == Tran),
-            24 => (WriteBlock, state == Tran),
-            25 => (WriteMultipleBlock, state == Tran),
-            28 => (SetWriteProt, state == Tran),
-            29 => (ClrWriteProt, state == Tran),
-            30 => (SendWriteProt, state == Tran),
-            32 => (EraseWrBlkStart, state == Tran),
-            33 => (EraseWrBlkEnd, state == Tran),
-            38 => (Erase, state == Tran),
-            42 => (LockUnlock, state == Tran),
-            55 => (AppCmd, matches!(state, Idle | Stby | Tran | Data | Rcv | Prg | Dis)),
-            _ => return None,
-        };
-        (allowed && (!self.locked || command.runs_locked())).then_some(command)
-    }
-
-    fn run(
-        &mut self,
-        command: Command,
-        index: u8,
-        argument: u32,
-        memory: &mut [u8],
-        out: &mut [u8],
-    ) -> usize {
-        let at_reception = self.state;
+    fn clear_erase_marks_before(&mut self, command: Command) {
         if !command.keeps_erase_marks() && self.clear_erase_marks() {
             self.status |= ERASE_RESET;
         }
-        let response = self.execute(command, argument, memory).unwrap_or_else(|error| {
-            self.status |= error;
-            Response::R1
-        });
-        let app_cmd = if command.shows_app_cmd() { APP_CMD } else { 0 };
-        let status = self.status | shown_state(at_reception) | self.shown_lock() | app_cmd;
-        self.status &= !(COM_CRC_ERROR | ILLEGAL_COMMAND);
-        if let Response::R1 = response {
-            self.status &= !CLEAR_BY_READ;
-        }
-        self.app_mark = command == Command::AppCmd;
-        match response {
-            Response::Silence => 0,
-            Response::R1 => respond(index, status, out),
-            Response::R2(register) => {
-                out[0] = 0x3F;
-                out[1..17].copy_from_slice(&register);
-                17
-            }
-            Response::R3(ocr) => {
-                out[0] = 0x3F;
-                out[1..5].copy_from_slice(&ocr.to_be_bytes());
-                out[5] = 0xFF;
-                6
-            }
-            Response::R6 => respond(index, u32::from(self.rca) << 16 | short_status(status), out),
-            Response::R7(echo) => respond(index, echo, out),
-        }
     }
 
-    /// The effects, one row per command. An error is the status bit of the check that
-    /// failed; it shows in the R1, and the card stays in tran.
-    fn execute(&mut self, command: Command, argument: u32, memory: &mut [u8]) -> Result<Response, u32> {
-        use {Command::*, Response::*};
-        Ok(match command {
-            GoIdleState => {
-                self.go_idle();
-                Silence
-            }
-            AllSendCid => {
-                self.state = State::Ident;
-                R2(self.settings.cid_register())
-            }
-            SendRelativeAddr => {
-                self.last_rca = self.last_rca.wrapping_add(1).max(1);
-                self.rca = self.last_rca;
-                self.state = State::Stby;
-                R6
-            }
-            SelectCard => {
-                self.state = if self.state == State::Stby { State::Tran } else { State::Prg };
-                R1
-            }
-            DeselectCard => {
-                self.leave_transfer(if self.state == State::Prg { State::Dis } else { State::Stby });
-                Silence
-            }
-            SendIfCond if argument >> 8 & 0xF == 1 => R7(argument & 0xFFF),
-            SendIfCond => Silence,
-            SendCsd => R2(self.settings.csd_register()),
-            SendCid => R2(self.settings.cid_register()),
-            StopTransmission => {
-                self.leave_transfer(if self.state == State::Data { State::Tran } else { State::Prg });
-                R1
-            }
-            SendStatus | AppCmd | SetWrBlkEraseCount | SetClrCardDetect => R1,
-            GoInactiveState => {
-                self.leave_transfer(State::Ina);
-                Silence
-            }
-            SetBlocklen => {
-                if !(1..=BLOCK_BYTES).contains(&argument) {
-                    return Err(BLOCK_LEN_ERROR);
-                }
-                self.block_len = argument;
-                R1
-            }
-            ReadSingleBlock => {
-                self.check_read(argument)?;
-                self.send_data(Transfer::Read { multiple: false, address: argument, held: false })
-            }
-            ReadMultipleBlock => {
-                self.check_read(argument)?;
-                self.send_data(Transfer::Read { multiple: true, address: argument, held: false })
-            }
-            WriteBlock => {
-                self.check_write(argument)?;
-                self.receive_write(Transfer::Write { multiple: false, address: argument, held: false })
-            }
-            WriteMultipleBlock => {
-                self.check_write(argument)?;
-                self.receive_write(Transfer::Write { multiple: true, address: argument, held: false })
-            }
-            SetWriteProt => {
-                self.check_range(argument)?;
-                let (byte, bit) = mark_of(argument / GROUP_BYTES);
-                self.write_prot[byte] |= bit;
-                self.program()
-            }
-            ClrWriteProt => {
-                self.check_range(argument)?;
-                let (byte, bit) = mark_of(argument / GROUP_BYTES);
-                self.write_prot[byte] &= !bit;
-                self.program()
-            }
+    /// An error is the status bit of the check that failed; the response shows it.
+    fn execute(&mut self, command: Command, argument: u32, memory: &mut [u8]) -> Result<(), u32> {
+        use Command::*;
+        match command {
+            SendStatus | AppCmd | SetWrBlkEraseCount | SetClrCardDetect => {}
+            StopTransmission => self.stop_transmission(),
+            SetBlocklen => self.set_blocklen(argument)?,
+            ReadSingleBlock => self.read(false, argument)?,
+            ReadMultipleBlock => self.read(true, argument)?,
+            WriteBlock => self.write(false, argument)?,
+            WriteMultipleBlock => self.write(true, argument)?,
+            SetWriteProt => self.change_write_prot(argument, true)?,
+            ClrWriteProt => self.change_write_prot(argument, false)?,
             SendWriteProt => {
                 self.check_range(argument)?;
-                self.send_data(Transfer::WriteProt { address: argument })
+                self.send_data(Transfer::WriteProt { address: argument });
             }
-            EraseWrBlkStart => {
-                self.check_range(argument)?;
-                self.erase_start = Some(argument);
-                self.erase_end = None;
-                R1
-            }
-            EraseWrBlkEnd => {
-                if self.erase_start.is_none() {
-                    self.clear_erase_marks();
-                    return Err(ERASE_SEQ_ERROR);
-                }
-                self.check_range(argument)?;
-                self.erase_end = Some(argument);
-                R1
-            }
-            Erase => {
-                self.erase(memory)?;
-                self.program()
-            }
+            EraseWrBlkStart => self.set_erase_start(argument)?,
+            EraseWrBlkEnd => self.set_erase_end(argument)?,
+            Erase => self.erase(memory)?,
             LockUnlock => self.receive_data(Transfer::LockUnlock),
             SdStatus => self.send_data(Transfer::SdStatus),
             SendNumWrBlocks => self.send_data(Transfer::NumWrBlocks),
             SendScr => self.send_data(Transfer::Scr),
-            SdSendOpCond => self.send_op_cond(argument),
-        })
+            own => unreachable!("{own:?} is not the same in both modes"),
+        }
+        Ok(())
+    }
+
+    fn stop_transmission(&mut self) {
+        self.leave_transfer(if self.transfer.is_read() { State::Tran } else { State::Prg });
+    }
+
+    fn set_blocklen(&mut self, length: u32) -> Result<(), u32> {
+        if !(1..=BLOCK_BYTES).contains(&length) {
+            return Err(BLOCK_LEN_ERROR);
+        }
+        self.block_len = length;
+        Ok(())
+    }
+
+    fn read(&mut self, multiple: bool, address: u32) -> Result<(), u32> {
+        self.check_read(address)?;
+        self.send_data(Transfer::Read { multiple, address, held: false });
+        Ok(())
+    }
+
+    /// A22 counts anew.
+    fn write(&mut self, multiple: bool, address: u32) -> Result<(), u32> {
+        self.check_write(address)?;
+        self.num_wr_blocks = 0;
+        self.receive_data(Transfer::Write { multiple, address, held: false });
+        Ok(())
+    }
+
+    fn change_write_prot(&mut self, address: u32, is_set: bool) -> Result<(), u32> {
+        self.check_range(address)?;
+        let (byte, bit) = mark_of(address / GROUP_BYTES);
+        if is_set {
+            self.write_prot[byte] |= bit;
+        } else {
+            self.write_prot[byte] &= !bit;
+        }
+        self.state = State::Prg;
+        Ok(())
+    }
+
+    fn set_erase_start(&mut self, address: u32) -> Result<(), u32> {
+        self.check_range(address)?;
+        self.erase_start = Some(address);
+        self.erase_end = None;
+        Ok(())
+    }
+
+    fn set_erase_end(&mut self, address: u32) -> Result<(), u32> {
+        if self.erase_start.is_none() {
+            self.clear_erase_marks();
+            return Err(ERASE_SEQ_ERROR);
+        }
+        self.check_range(address)?;
+        self.erase_end = Some(address);
+        Ok(())
+    }
+
+    fn erase(&mut self, memory: &mut [u8]) -> Result<(), u32> {
+        let marks = (self.erase_start.take(), self.erase_end.take());
+        let (Some(start), Some(end)) = marks else {
+            return Err(ERASE_SEQ_ERROR);
+        };
+        if end < start {
+            return Err(ERASE_PARAM);
+        }
+        for block in start / BLOCK_BYTES..=end / BLOCK_BYTES {
+            let address = block * BLOCK_BYTES;
+            if self.is_protected(address) {
+                self.status |= WP_ERASE_SKIP;
+            } else {
+                memory[address as usize..][..BLOCK].fill(0);
+            }
+        }
+        self.state = State::Prg;
+        Ok(())
+    }
+}
+
+// Blocks, as they are behind a token.
+impl Card {
+    /// Of a write transfer; its check counts where it is judged.
+    fn packet_in(&mut self, packet: &[u8], is_judged: bool, memory: &mut [u8]) -> CrcStatus {
+        let (payload, check) = packet.split_at(packet.len() - CHECK);
+        let is_good = !is_judged || check == crc16(payload).to_be_bytes();
+        match self.transfer {
+            Transfer::Write { held: true, .. } => CrcStatus::Silence,
+            Transfer::Write { multiple: true, .. } if !is_good => {
+                self.hold(0);
+                CrcStatus::Rejected
+            }
+            _ if !is_good => {
+                self.leave_transfer(State::Tran);
+                CrcStatus::Rejected
+            }
+            Transfer::Write { multiple, address, .. } => self.store(multiple, address, payload, memory),
+            _ => {
+                self.lock_unlock(payload, memory);
+                self.leave_transfer(State::Prg);
+                CrcStatus::Accepted
+            }
+        }
+    }
+
+    fn store(&mut self, multiple: bool, address: u32, payload: &[u8], memory: &mut [u8]) -> CrcStatus {
+        if let Err(error) = self.check_range(address).and_then(|()| self.check_protection(address)) {
+            self.hold(error);
+            return CrcStatus::Silence;
+        }
+        memory[address as usize..][..BLOCK].copy_from_slice(payload);
+        self.num_wr_blocks += 1;
+        if multiple {
+            self.transfer = Transfer::Write { multiple, address: address + BLOCK_BYTES, held: false };
+        } else {
+            self.leave_transfer(State::Prg);
+        }
+        CrcStatus::Accepted
+    }
+
+    /// Of a read transfer; gives its length.
+    fn next_packet(&mut self, memory: &[u8], out: &mut [u8]) -> usize {
+        match self.transfer {
+            Transfer::Read { held: true, .. } => 0,
+            Transfer::Read { multiple, address, .. } => self.send_block(multiple, address, memory, out),
+            Transfer::WriteProt { address } => {
+                self.send_register(&self.write_prot_bits(address).to_be_bytes(), out)
+            }
+            Transfer::SdStatus => self.send_register(&[0; 64], out),
+            Transfer::NumWrBlocks => self.send_register(&self.num_wr_blocks.to_be_bytes(), out),
+            Transfer::Scr => self.send_register(&SCR, out),
+            Transfer::Csd => self.send_register(&self.settings.csd_register(), out),
+            Transfer::Cid => self.send_register(&self.settings.cid_register(), out),
+            Transfer::None | Transfer::Write { .. } | Transfer::LockUnlock => 0,
+        }
+    }
+
+    fn send_block(&mut self, multiple: bool, address: u32, memory: &[u8], out: &mut [u8]) -> usize {
+        if let Err(error) = self.check_read(address) {
+            self.hold(error);
+            return 0;
+        }
+        if multiple {
+            self.transfer = Transfer::Read { multiple, address: address + self.block_len, held: false };
+        } else {
+            self.leave_transfer(State::Tran);
+        }
+        send(&memory[address as usize..][..self.block_len as usize], out)
+    }
+
+    /// Register transfers are single: the take that sends one ends it.
+    fn send_register(&mut self, payload: &[u8], out: &mut [u8]) -> usize {
+        self.leave_transfer(State::Tran);
+        send(payload, out)
+    }
+
+    /// Bytes of the packet that is due, its check included; also where none is.
+    pub fn packet_size(&self) -> usize {
+        match self.transfer {
+            Transfer::LockUnlock => self.block_len as usize + CHECK,
+            _ => PACKET,
+        }
+    }
+
+    /// With its token, where there is one.
+    pub fn block_size(&self) -> usize {
+        self.mode.lead().len() + self.packet_size()
+    }
+
+    /// Row 1 of a block.
+    pub fn is_due(&self, size: usize) -> bool {
+        size == self.block_size() || size == 1 && self.takes_stop_token()
     }
 }
 
@@ -733,11 +660,7 @@ impl Card {
         }
     }
 
-    fn is_own(&self, argument: u32) -> bool {
-        argument >> 16 == u32::from(self.rca)
-    }
-
-    /// Everything but the settings, the lock, the last published RCA and the protection marks.
+    /// Everything but the settings, the lock, the mode, the last published RCA and the protection marks.
     fn go_idle(&mut self) {
         self.state = State::Idle;
         self.rca = 0;
@@ -749,24 +672,6 @@ impl Card {
         self.erase_end = None;
         self.transfer = Transfer::None;
         self.num_wr_blocks = 0;
-    }
-
-    fn send_op_cond(&mut self, argument: u32) -> Response {
-        let window = argument & 0x00FF_FFFF;
-        if window == 0 {
-            let ready = if self.polls_left == 0 { OCR_READY } else { 0 };
-            return Response::R3(OCR_WINDOW | ready);
-        }
-        if window & OCR_WINDOW == 0 {
-            self.state = State::Ina;
-            return Response::Silence;
-        }
-        if self.polls_left > 0 {
-            self.polls_left -= 1;
-            return Response::R3(OCR_WINDOW);
-        }
-        self.state = State::Ready;
-        Response::R3(OCR_WINDOW | OCR_READY)
     }
 
     fn check_range(&self, address: u32) -> Result<(), u32> {
@@ -804,50 +709,14 @@ impl Card {
         self.check_protection(address)
     }
 
-    fn send_data(&mut self, transfer: Transfer) -> Response {
+    fn send_data(&mut self, transfer: Transfer) {
         self.transfer = transfer;
         self.state = State::Data;
-        Response::R1
     }
 
-    /// Of memory: A22 counts anew.
-    fn receive_write(&mut self, transfer: Transfer) -> Response {
-        self.num_wr_blocks = 0;
-        self.receive_data(transfer)
-    }
-
-    fn receive_data(&mut self, transfer: Transfer) -> Response {
+    fn receive_data(&mut self, transfer: Transfer) {
         self.transfer = transfer;
         self.state = State::Rcv;
-        Response::R1
-    }
-
-    /// Bytes of the block that is due, its check included; also where none is.
-    pub fn packet_size(&self) -> usize {
-        match self.transfer {
-            Transfer::LockUnlock => self.block_len as usize + CHECK,
-            _ => PACKET,
-        }
-    }
-
-    fn store(&mut self, multiple: bool, address: u32, payload: &[u8], memory: &mut [u8]) -> CrcStatus {
-        if let Err(error) = self.check_range(address).and_then(|()| self.check_protection(address)) {
-            self.hold(error);
-            return CrcStatus::Silence;
-        }
-        memory[address as usize..][..BLOCK].copy_from_slice(payload);
-        self.num_wr_blocks += 1;
-        if multiple {
-            self.transfer = Transfer::Write { multiple, address: address + BLOCK_BYTES, held: false };
-        } else {
-            self.leave_transfer(State::Prg);
-        }
-        CrcStatus::Accepted
-    }
-
-    fn program(&mut self) -> Response {
-        self.state = State::Prg;
-        Response::R1
     }
 
     fn leave_transfer(&mut self, state: State) {
@@ -860,12 +729,6 @@ impl Card {
         if let Transfer::Read { held, .. } | Transfer::Write { held, .. } = &mut self.transfer {
             *held = true;
         }
-    }
-
-    /// Register transfers are single: the take that sends one ends it.
-    fn send_register(&mut self, payload: &[u8], out: &mut [u8]) -> usize {
-        self.leave_transfer(State::Tran);
-        send(payload, out)
     }
 
     fn is_protected(&self, address: u32) -> bool {
@@ -890,46 +753,10 @@ impl Card {
         let end = self.erase_end.take();
         start.is_some() || end.is_some()
     }
-
-    fn erase(&mut self, memory: &mut [u8]) -> Result<(), u32> {
-        let marks = (self.erase_start.take(), self.erase_end.take());
-        let (Some(start), Some(end)) = marks else {
-            return Err(ERASE_SEQ_ERROR);
-        };
-        if end < start {
-            return Err(ERASE_PARAM);
-        }
-        for block in start / BLOCK_BYTES..=end / BLOCK_BYTES {
-            let address = block * BLOCK_BYTES;
-            if self.is_protected(address) {
-                self.status |= WP_ERASE_SKIP;
-            } else {
-                memory[address as usize..][..BLOCK].fill(0);
-            }
-        }
-        Ok(())
-    }
 }
 
 fn mark_of(group: u32) -> (usize, u8) {
     (group as usize / 8, 1 << (group % 8))
-}
-
-fn shown_state(state: State) -> u32 {
-    let busy = matches!(state, State::Prg | State::Dis);
-    (state as u32) << 9 | if busy { 0 } else { READY_FOR_DATA }
-}
-
-/// Status bits 23, 22, 19 and 12..0, as R6 has them.
-fn short_status(status: u32) -> u32 {
-    status >> 8 & 0xC000 | status >> 6 & 0x2000 | status & 0x1FFF
-}
-
-fn respond(index: u8, content: u32, out: &mut [u8]) -> usize {
-    out[0] = index;
-    out[1..5].copy_from_slice(&content.to_be_bytes());
-    out[5] = crc7(&out[..5]) << 1 | 1;
-    6
 }
 
 fn send(payload: &[u8], out: &mut [u8]) -> usize {
@@ -937,14 +764,6 @@ fn send(payload: &[u8], out: &mut [u8]) -> usize {
     body.copy_from_slice(payload);
     rest[..2].copy_from_slice(&crc16(payload).to_be_bytes());
     payload.len() + 2
-}
-
-/// Packs (width, value) fields, high bit first, and ends with CRC7 and a 1.
-fn register(fields: &[(u32, u32)]) -> [u8; 16] {
-    let content = fields.iter().fold(0u128, |bits, &(width, value)| bits << width | u128::from(value));
-    let mut register = (content << 8).to_be_bytes();
-    register[15] = crc7(&register[..15]) << 1 | 1;
-    register
 }
 
 pub fn crc7(bytes: &[u8]) -> u8 {

@@ -19,18 +19,20 @@ impl Slot {
         Slot { card: Card::power_up(settings, &memory).unwrap(), memory }
     }
 
+    /// With chip select high.
     pub fn command(&mut self, index: u8, argument: u32) -> String {
-        let mut frame = [0x40 | index, 0, 0, 0, 0, 0];
-        frame[1..5].copy_from_slice(&argument.to_be_bytes());
-        frame[5] = crc7(&frame[..5]) << 1 | 1;
+        self.frame(&frame(index, argument), false)
+    }
+
+    pub fn frame(&mut self, frame: &[u8; 6], low: bool) -> String {
         let mut out = [0xEE; 20];
-        let length = self.card.command_frame(&frame, &mut self.memory, &mut out).unwrap();
+        let length = self.card.command_frame(frame, low, &mut self.memory, &mut out).unwrap();
         assert!(out[length..].iter().all(|&byte| byte == 0xEE), "written behind the answer");
         hex(&out[..length])
     }
 
     pub fn take(&mut self) -> String {
-        let mut out = [0xEE; PACKET];
+        let mut out = [0xEE; SPI_BLOCK];
         let length = self.card.take(&self.memory, &mut out).unwrap();
         assert!(out[length..].iter().all(|&byte| byte == 0xEE), "written behind the answer");
         hex(&out[..length])
@@ -54,6 +56,13 @@ impl Slot {
         assert_eq!(self.card.state, State::Tran);
         self
     }
+}
+
+pub fn frame(index: u8, argument: u32) -> [u8; 6] {
+    let mut frame = [0x40 | index, 0, 0, 0, 0, 0];
+    frame[1..5].copy_from_slice(&argument.to_be_bytes());
+    frame[5] = crc7(&frame[..5]) << 1 | 1;
+    frame
 }
 
 pub fn hex(bytes: &[u8]) -> String {
@@ -189,7 +198,7 @@ fn refusals_come_in_order() {
 
     let frame = |card: &Card, frame: &[u8], memory: &mut [u8], room: usize| {
         let (mut after, mut out) = (card.clone(), [0xEE; 32]);
-        let answer = after.command_frame(frame, memory, &mut out[..room]);
+        let answer = after.command_frame(frame, false, memory, &mut out[..room]);
         assert!(after == *card && out == [0xEE; 32]);
         answer
     };
@@ -476,6 +485,7 @@ fn transcripts() {
     check!(replay "replay_transcripts" "nine" "bring-up" "all-states" "status-bits" "holds" "erase" "multiple");
     check!(replay "replay_transcripts" "lock" "refusals" "damaged" "damaged-without");
     check!(console "console_transcripts" "power" "protected" "lock" "locked" "memory" "sizes");
+    check!(console "console_transcripts" "spi" "spi-blocks" "spi-memory");
 }
 
 /// 01's own text, not a file made by this card.

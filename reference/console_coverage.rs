@@ -38,24 +38,27 @@ const GUARDED: [u8; 4] = [24, 25, 28, 38];
 impl ConsoleCoverage {
     pub fn call(&mut self, call: &Call, step: &Step) {
         match (call, step.power) {
-            (Call::Power(power), Some(Ok(()))) => self.power_up(&power.settings(), step.before.state),
+            (Call::Power(power), Some(Ok(()))) => self.power_up(&power.settings(), &step.before),
             (_, Some(Err(refusal))) => count(&mut self.refused, refusal as usize),
             (Call::Mem(block), _) if *block >= CONSOLE_BLOCKS => {
                 count(&mut self.unreadable, "mem, no such block")
             }
             (Call::Mem(_), _) => self.mem_answered += 1,
+            (Call::Blk(_) | Call::Cmd(..), _) if step.before.mode.is_spi() => {}
             (Call::Blk(packet), _) if packet.len() != step.before.packet_size() => {
                 self.blocks[usize::from(step.before.state != State::Rcv)] += 1;
                 self.block_sizes.insert(packet.len());
             }
             (Call::Unreadable(line), _) => self.unreadable_line(line),
-            (Call::Cmd(frame, Frame::Sound), _) => self.guarded(frame[0] & 0x3F, &step.before),
+            (Call::Cmd(frame, Frame::Sound, _), _) => self.guarded(frame[0] & 0x3F, &step.before),
             _ => {}
         }
     }
 
-    fn power_up(&mut self, settings: &Settings, state: State) {
-        count(&mut self.states, state as usize);
+    fn power_up(&mut self, settings: &Settings, met: &Card) {
+        if !met.mode.is_spi() {
+            count(&mut self.states, met.state as usize);
+        }
         count(&mut self.protections, protection(settings));
         count(&mut self.polls, usize::from(settings.start_polls.min(2)));
         let size = SIZES.iter().position(|(limit, _)| settings.block_count < *limit);
@@ -79,7 +82,7 @@ impl ConsoleCoverage {
     }
 
     pub fn answer(&mut self, call: &Call, response: &str) {
-        let Call::Cmd([0x49, ..], _) = call else {
+        let Call::Cmd([0x49, ..], _, _) = call else {
             return;
         };
         if let Some(csd) = response.get(2..34).and_then(|csd| u128::from_str_radix(csd, 16).ok()) {

@@ -13,6 +13,7 @@ impl Host {
     /// Decides how restless this life is and, mostly, on a power-up at its beginning.
     pub fn begin_console(&mut self, rng: &mut Rng) {
         self.power_ups = rng.pick(&[0, 2, 6, 12, 25]);
+        self.decide_on_spi(rng);
         if rng.chance(80) {
             if rng.chance(30) {
                 self.plan_bring_up(rng.below(5) as usize);
@@ -36,8 +37,11 @@ impl Host {
     }
 
     pub fn console_call(&mut self, rng: &mut Rng) -> Option<Call> {
-        if std::mem::take(&mut self.is_fresh) && rng.chance(50) {
-            self.plan_bring_up(usize::MAX);
+        if std::mem::take(&mut self.is_fresh) {
+            self.decide_on_spi(rng);
+            if rng.chance(50) {
+                self.plan_bring_up(usize::MAX);
+            }
         }
         let power_ups = match self.card.state {
             State::Ina => 6 * self.power_ups,
@@ -48,6 +52,7 @@ impl Host {
             return Some(Call::Power(self.power(rng)));
         }
         let other_sizes = match self.card.transfer {
+            _ if self.card.mode.is_spi() => 0,
             Transfer::LockUnlock => 80,
             Transfer::Write { .. } => 35,
             _ => 4,

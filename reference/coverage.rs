@@ -7,6 +7,7 @@ use crate::erase_coverage::{is_pending, EraseCoverage};
 use crate::host::{Step, APPLICATION};
 use crate::lock_coverage::LockCoverage;
 use crate::locked_coverage::LockedCoverage;
+use crate::spi_coverage::SpiCoverage;
 use std::collections::BTreeMap;
 
 pub const STATES: [State; 10] = [
@@ -40,6 +41,8 @@ pub struct Coverage {
     lock: LockCoverage,
     locked: LockedCoverage,
     console: Option<ConsoleCoverage>,
+    /// All else is about SD mode.
+    spi: SpiCoverage,
 }
 
 #[derive(Clone, PartialEq, Eq, PartialOrd, Ord)]
@@ -55,6 +58,13 @@ impl Coverage {
     }
 
     pub fn call(&mut self, call: &Call, step: &Step) {
+        self.spi.call(call, step);
+        if let Some(console) = &mut self.console {
+            console.call(call, step);
+        }
+        if step.before.mode.is_spi() {
+            return;
+        }
         let row = Row::of(call, step);
         if step.before.app_mark {
             *self.marked.entry(row.clone()).or_default() += 1;
@@ -69,16 +79,18 @@ impl Coverage {
         self.erase.call(call, step);
         self.lock.call(call, step);
         self.locked.call(call, step);
-        if let Some(console) = &mut self.console {
-            console.call(call, step);
-        }
     }
 
-    pub fn answer(&mut self, call: &Call, answer: &[u8]) {
+    /// The card is the one that the call met.
+    pub fn answer(&mut self, call: &Call, met: &Card, answer: &[u8]) {
         let text = String::from_utf8_lossy(answer.trim_ascii_end()).into_owned();
         let response = text.strip_prefix("rsp\t").unwrap_or("");
+        // the 0 that chooses SPI has an answer of SPI
+        if met.mode.is_spi() || response.len() == 2 {
+            return self.spi.answer(call, met, answer);
+        }
         let kind = kind(&text, response);
-        if let (Call::Cmd(frame, _), "rsp R1" | "rsp R6") = (call, kind.as_str()) {
+        if let (Call::Cmd(frame, _, _), "rsp R1" | "rsp R6") = (call, kind.as_str()) {
             let content = u32::from_str_radix(response.get(2..10).unwrap_or(""), 16).unwrap_or(0);
             let status = match kind.as_str() {
                 "rsp R6" => (content & 0xC000) << 8 | (content & 0x2000) << 6 | content & 0x1FFF,
@@ -110,6 +122,7 @@ impl Coverage {
         self.locked.print(self.console.is_some());
         if let Some(console) = &self.console {
             console.print();
+            self.spi.print();
         }
         println!();
     }
@@ -233,7 +246,7 @@ fn all_rows(is_console: bool) -> Vec<Row> {
 impl Row {
     fn of(call: &Call, step: &Step) -> Row {
         match call {
-            Call::Cmd(frame, Frame::Sound) => {
+            Call::Cmd(frame, Frame::Sound, _) => {
                 let index = frame[0] & 0x3F;
                 let own = u16::from_be_bytes([frame[1], frame[2]]) == step.before.rca;
                 match index {
@@ -242,8 +255,8 @@ impl Row {
                     _ => Row::Plain(index, ""),
                 }
             }
-            Call::Cmd(_, Frame::Damaged) => Row::Other("damaged"),
-            Call::Cmd(_, Frame::Noise) => Row::Other("noise"),
+            Call::Cmd(_, Frame::Damaged, _) => Row::Other("damaged"),
+            Call::Cmd(_, Frame::Noise, _) => Row::Other("noise"),
             Call::Blk(packet) if packet.len() != step.before.packet_size() => Row::Other("other size"),
             Call::Blk(packet) if is_good(packet) => Row::Other("block"),
             Call::Blk(_) => Row::Other("bad block"),

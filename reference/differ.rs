@@ -26,10 +26,16 @@ mod lock_coverage;
 mod lock_host;
 mod locked_coverage;
 mod programs;
+mod spi_answer_coverage;
+mod spi_block_coverage;
+mod spi_calls;
+mod spi_command_coverage;
+mod spi_coverage;
+mod spi_host;
 mod tally;
 
 use calls::Call;
-use card::State;
+use card::Card;
 use chance::Rng;
 use coverage::Coverage;
 use host::Host;
@@ -189,8 +195,8 @@ impl Life<'_> {
         Ok(())
     }
 
-    /// The lines of the next calls, and the calls with the states that they meet.
-    fn batch(&mut self, rng: &mut Rng, count: u64, is_last: bool) -> (Vec<u8>, Vec<(Call, State)>) {
+    /// The lines of the next calls, and the calls with the cards that they meet.
+    fn batch(&mut self, rng: &mut Rng, count: u64, is_last: bool) -> (Vec<u8>, Vec<(Call, Card)>) {
         let mut text = Vec::new();
         let mut calls = Vec::new();
         for i in 0..count {
@@ -203,25 +209,25 @@ impl Life<'_> {
             if !(is_last && i == count - 1 && rng.chance(50)) || line.is_empty() {
                 text.push(b'\n');
             }
-            calls.push((call, step.before.state));
+            calls.push((call, step.before));
         }
         self.sent += count;
         (text, calls)
     }
 
-    fn compare(&mut self, text: &[u8], calls: &[(Call, State)], is_last: bool) -> Result<(), String> {
+    fn compare(&mut self, text: &[u8], calls: &[(Call, Card)], is_last: bool) -> Result<(), String> {
         let written: Vec<_> = self.programs.iter_mut().map(|program| program.send(text)).collect();
         if is_last {
             self.programs.iter_mut().for_each(Program::end_input);
         }
-        for (i, (call, state)) in calls.iter().enumerate() {
+        for (i, (call, card)) in calls.iter().enumerate() {
             // What was sent behind a difference belongs to no report.
             let answers = [self.programs[0].answer(), self.programs[1].answer()];
-            self.history.push(call, *state, &answers);
+            self.history.push(call, card, &answers);
             if answers[0] != answers[1] || answers[0].is_err() {
                 return Err(self.history.report(&answers));
             }
-            self.coverage.answer(call, answers[0].as_ref().unwrap());
+            self.coverage.answer(call, card, answers[0].as_ref().unwrap());
             if i + 1 == calls.len() && written.iter().any(Result::is_err) {
                 return Err(self.history.report(&answers) + "\na program stopped reading");
             }

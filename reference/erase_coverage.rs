@@ -59,7 +59,7 @@ impl EraseCoverage {
 
 /// 13 for this card that runs as SEND_STATUS.
 fn is_status_poll(call: &Call, card: &Card) -> bool {
-    let Call::Cmd([0x4D, high, low, ..], Frame::Sound) = call else {
+    let Call::Cmd([0x4D, high, low, ..], Frame::Sound, _) = call else {
         return false;
     };
     u16::from_be_bytes([*high, *low]) == card.rca

@@ -4,12 +4,15 @@
 //! 17 7E00              command 17, argument in hex (0 if left out); A41 is 41
 //! copy 9 17 7E00       the same frame damaged: bit 9 flipped, bit 0 is sent first
 //! copy 9,11 17 7E00    several bits
+//! low 17 7E00          the frame with chip select low; also low copy 9 17 7E00
 //! block 5A             512 bytes 5Ah and their check
 //! bad 9 5A             the same packet with bit 9 flipped
 //! take                 also: over
 //! 66 * take            sixty-six times
 //! data 6 0104A1B2      these bytes, filled up with zeros to 6, and their check: a block of command 42
 //! bad 9 6 0104A1B2     the same packet with bit 9 flipped
+//! token FE block 5A    any of these packets behind a token, which the bits of bad do not count
+//! token FD             a token alone
 //! power 64 2 0 1       block count and start polls in decimal, CID as 30 digits or 0, flags
 //! power 64 2 0 1 A1B2  the same with a password of these bytes
 //! power 64 2 0 1 17 A1 the same with this length of the password, whatever its bytes
@@ -69,14 +72,22 @@ fn ended(mut line: Vec<u8>) -> Vec<u8> {
 }
 
 fn replay_line(item: &str) -> Option<Vec<u8>> {
-    if let Some(text) = item.strip_prefix("raw") {
-        return unescape(text.strip_prefix(' ').unwrap_or(text));
+    let (word, rest) = item.split_once(' ').unwrap_or((item, ""));
+    match word {
+        "raw" => unescape(rest),
+        "fill" => {
+            let (count, text) = rest.split_once(' ')?;
+            let mut bytes = unescape(text)?;
+            bytes.resize(count.parse().ok()?, b'0');
+            Some(bytes)
+        }
+        "low" => Some([b"low", replay_line(rest)?.strip_prefix(b"cmd")?].concat()),
+        "token" => led(rest),
+        _ => call_line(item),
     }
-    if let Some((count, text)) = item.strip_prefix("fill ").and_then(|rest| rest.split_once(' ')) {
-        let mut bytes = unescape(text)?;
-        bytes.resize(count.parse().ok()?, b'0');
-        return Some(bytes);
-    }
+}
+
+fn call_line(item: &str) -> Option<Vec<u8>> {
     let words: Vec<&str> = item.split_whitespace().collect();
     match words.as_slice() {
         ["take" | "over"] => Some(item.into()),
@@ -133,6 +144,16 @@ fn packet(byte: &str) -> Option<[u8; PACKET]> {
     let check = crc16(&packet[..BLOCK]);
     packet[BLOCK..].copy_from_slice(&check.to_be_bytes());
     Some(packet)
+}
+
+/// A block of SPI mode: its token and, if there is one, a packet.
+fn led(rest: &str) -> Option<Vec<u8>> {
+    let (token, item) = rest.split_once(' ').map_or((rest, None), |(token, item)| (token, Some(item)));
+    let mut bytes = line("blk", &[u8::from_str_radix(token, 16).ok()?]);
+    if let Some(item) = item {
+        bytes.extend(replay_line(item)?.strip_prefix(b"blk\t")?);
+    }
+    Some(bytes)
 }
 
 /// A block of command 42.

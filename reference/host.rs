@@ -1,7 +1,7 @@
 //! The differential tester's host: random calls that go by the state which the card has reached.
 
 use crate::calls::{block, block_len, damage, is_readable, noise, spoil, window, Call};
-use crate::card::{Card, CrcStatus, Password, Refusal, State, Transfer, BLOCK, PACKET};
+use crate::card::{Card, CrcStatus, Password, Refusal, State, Transfer, BLOCK, SPI_BLOCK};
 use crate::chance::Rng;
 use crate::lines::{lent, lent_mut, replay_settings, CONSOLE_BLOCKS};
 use std::collections::VecDeque;
@@ -15,7 +15,7 @@ const SWEEP: u32 = 128;
 pub struct Host {
     pub card: Card,
     pub memory: Vec<u8>,
-    out: [u8; PACKET],
+    out: [u8; SPI_BLOCK],
     /// Calls already decided on.
     pub plan: VecDeque<Call>,
     /// Nothing else comes between them.
@@ -32,6 +32,8 @@ pub struct Host {
     pub recent: VecDeque<u32>,
     /// The password before the present one.
     pub former: Password,
+    /// Where this card is to choose SPI, if it is.
+    pub spi_from: Option<State>,
 }
 
 /// What a call did to the model.
@@ -54,7 +56,7 @@ impl Host {
         Host {
             card,
             memory,
-            out: [0; PACKET],
+            out: [0; SPI_BLOCK],
             plan: VecDeque::new(),
             undisturbed: false,
             is_console,
@@ -64,6 +66,7 @@ impl Host {
             touched: vec![false; blocks as usize],
             recent: VecDeque::new(),
             former: Password::default(),
+            spi_from: None,
         }
     }
 
@@ -74,8 +77,8 @@ impl Host {
         let mut crc_status = None;
         let mut power = None;
         match call {
-            Call::Cmd(frame, _) => {
-                let _ = self.card.command_frame(frame, memory, &mut self.out);
+            Call::Cmd(frame, _, is_low) => {
+                let _ = self.card.command_frame(frame, *is_low, memory, &mut self.out);
             }
             Call::Blk(packet) => crc_status = self.card.block_in(packet, memory).ok(),
             Call::Take => {
@@ -86,6 +89,9 @@ impl Host {
             }
             Call::Power(settings) => power = Some(self.power_up(settings)),
             Call::Mem(_) | Call::Unreadable(_) => {}
+        }
+        if self.card.mode.is_spi() && !before.mode.is_spi() {
+            self.plan.clear();
         }
         if before.settings.password.is_set() && before.settings.password != self.card.settings.password {
             self.former = before.settings.password;
@@ -121,11 +127,22 @@ impl Host {
         if self.undisturbed {
             return self.plan.pop_front().expect("a plan");
         }
-        if self.is_console {
-            if let Some(call) = self.console_call(rng) {
-                return call;
-            }
+        if !self.is_console {
+            return self.sd_call(rng);
         }
+        if let Some(call) = self.console_call(rng) {
+            return call;
+        }
+        if self.card.mode.is_spi() {
+            return self.spi_call(rng);
+        }
+        self.choose_spi(rng).unwrap_or_else(|| {
+            let call = self.sd_call(rng);
+            self.seldom_low(rng, call)
+        })
+    }
+
+    fn sd_call(&mut self, rng: &mut Rng) -> Call {
         let seldom_seen = matches!(self.card.state, State::Ready | State::Ident | State::Ina);
         match rng.below(1000) {
             0..15 => self.unreadable(rng),
@@ -144,7 +161,7 @@ impl Host {
         }
     }
 
-    fn any_command(&mut self, rng: &mut Rng) -> Call {
+    pub fn any_command(&mut self, rng: &mut Rng) -> Call {
         let application = self.card.app_mark && rng.chance(70);
         let index = if application { rng.pick(&APPLICATION) } else { rng.below(64) as u8 };
         // Too many resets and inactive cards would leave no time for the rest.
@@ -156,7 +173,7 @@ impl Host {
     }
 
     /// An argument that the command is likely to look at.
-    fn argument(&mut self, index: u8, rng: &mut Rng) -> u32 {
+    pub fn argument(&mut self, index: u8, rng: &mut Rng) -> u32 {
         match index {
             13 | 55 | 7 | 9 | 10 if rng.chance(70) => self.own_rca(rng),
             15 if rng.chance(if self.may_go_inactive() { 15 } else { 60 }) => self.own_rca(rng),
@@ -200,7 +217,10 @@ impl Host {
     }
 
     /// Mostly a legal call in the state reached, and one that leads on.
-    fn sensible(&mut self, rng: &mut Rng) -> Call {
+    pub fn sensible(&mut self, rng: &mut Rng) -> Call {
+        if self.card.mode.is_spi() {
+            return self.sensible_spi(rng);
+        }
         if self.card.app_mark && rng.chance(75) {
             let index = match self.card.state {
                 State::Idle => 41,
@@ -230,7 +250,7 @@ impl Host {
         }
     }
 
-    fn command(&mut self, rng: &mut Rng, weights: &[(u64, u8)]) -> Call {
+    pub fn command(&mut self, rng: &mut Rng, weights: &[(u64, u8)]) -> Call {
         let index = rng.weighted(weights);
         let argument = match (index, self.card.state) {
             // Select from stby and dis, deselect from the others, mostly.
@@ -284,7 +304,7 @@ impl Host {
 
     /// Reads the whole memory, or of a large one mostly a part, and past its end, so that no
     /// wrong byte stays hidden.
-    fn plan_sweep(&mut self, rng: &mut Rng) {
+    pub fn plan_sweep(&mut self, rng: &mut Rng) {
         let blocks = self.card.settings.block_count;
         let is_whole = blocks <= SWEEP || rng.chance(3);
         let first = match self.recent.back() {
@@ -331,7 +351,7 @@ impl Host {
         self.command(rng, &[(250, 12), (120, 13), (100, 55), (10, 7), (6, 0), (4, 15)])
     }
 
-    fn unreadable(&mut self, rng: &mut Rng) -> Call {
+    pub fn unreadable(&mut self, rng: &mut Rng) -> Call {
         let line = match rng.below(if self.is_console { 8 } else { 4 }) {
             0 => self.sensible(rng).line(),
             1 => block(rng).line(),

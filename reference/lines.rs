@@ -1,6 +1,8 @@
 //! The lines of the replay program and of the console, on a card and its memory.
 
-use crate::card::{Card, Cid, CrcStatus, Password, Refusal, Settings, BLOCK, LONGEST_PASSWORD, PACKET};
+use crate::card::{
+    Card, Cid, CrcStatus, Password, Refusal, Settings, BLOCK, LONGEST_PASSWORD, PACKET, SPI_BLOCK,
+};
 use std::io::Write;
 
 /// Blocks of the console's memory.
@@ -14,7 +16,7 @@ pub struct Bench {
     card: Card,
     memory: Vec<u8>,
     is_console: bool,
-    out: [u8; PACKET],
+    out: [u8; SPI_BLOCK],
     text: Vec<u8>,
 }
 
@@ -32,7 +34,7 @@ impl Bench {
         let settings = replay_settings();
         let card = Card::power_up(settings, lent(&memory, settings.block_count))
             .expect("the settings of replay are allowed");
-        Bench { card, memory, is_console, out: [0; PACKET], text: Vec::with_capacity(LONGEST_LINE + 1) }
+        Bench { card, memory, is_console, out: [0; SPI_BLOCK], text: Vec::with_capacity(LONGEST_LINE + 1) }
     }
 
     /// The answer line, newline included.
@@ -50,7 +52,8 @@ impl Bench {
     fn call(&mut self, line: &[u8]) -> Result<(), Refusal> {
         let fields: Vec<&[u8]> = line.split(|&byte| byte == b'\t').collect();
         match fields.as_slice() {
-            [b"cmd", digits] => self.command(&sized(digits, 6)?),
+            [b"cmd", digits] => self.command(&sized(digits, 6)?, false),
+            [b"low", digits] if self.is_console => self.command(&sized(digits, 6)?, true),
             [b"blk", digits] if self.is_console => self.block(&up_to(digits, LONGEST_BLOCK)?),
             [b"blk", digits] => self.block(&sized(digits, PACKET)?),
             [b"take"] => self.take(),
@@ -70,16 +73,22 @@ impl Bench {
         }
     }
 
-    fn command(&mut self, frame: &[u8]) -> Result<(), Refusal> {
+    fn command(&mut self, frame: &[u8], low: bool) -> Result<(), Refusal> {
         let memory = lent_mut(&mut self.memory, self.card.settings.block_count);
-        let length = self.card.command_frame(frame, memory, &mut self.out)?;
+        let length = self.card.command_frame(frame, low, memory, &mut self.out)?;
         self.say(b"rsp", length);
         Ok(())
     }
 
-    fn block(&mut self, packet: &[u8]) -> Result<(), Refusal> {
+    fn block(&mut self, block: &[u8]) -> Result<(), Refusal> {
         let memory = lent_mut(&mut self.memory, self.card.settings.block_count);
-        self.text.extend_from_slice(match self.card.block_in(packet, memory)? {
+        let status = self.card.block_in(block, memory)?;
+        if let (true, Some(token)) = (self.card.mode.is_spi(), status.token()) {
+            self.out[0] = token;
+            self.say(b"rsp", 1);
+            return Ok(());
+        }
+        self.text.extend_from_slice(match status {
             CrcStatus::Silence => b"none",
             CrcStatus::Accepted => b"ack",
             CrcStatus::Rejected => b"nak",

@@ -47,7 +47,7 @@ impl LockCoverage {
         let [was_open, is_open] = [before, after].map(|card| card.transfer == Transfer::LockUnlock);
         match call {
             Call::Blk(packet) if was_open => self.block(packet, step),
-            Call::Cmd([index, ..], Frame::Sound) => self.command(index & 0x3F, step, was_open, is_open),
+            Call::Cmd([index, ..], Frame::Sound, _) => self.command(index & 0x3F, step, was_open, is_open),
             Call::Power(_) if was_open && !is_open => self.tally.add("transfer ended by", "power-up"),
             _ => {}
         }
@@ -74,7 +74,8 @@ impl LockCoverage {
         }
     }
 
-    fn block(&mut self, packet: &[u8], step: &Step) {
+    /// In SPI without its token.
+    pub fn block(&mut self, packet: &[u8], step: &Step) {
         let before = &step.before;
         let size = packet.len() as i64 - before.packet_size() as i64;
         if size != 0 {
@@ -133,6 +134,20 @@ impl LockCoverage {
     pub fn print(&self, is_console: bool) {
         println!("\ncommand 42 and its blocks");
         self.tally.print(&wanted(is_console));
+    }
+
+    /// What does not go by commands.
+    pub fn print_blocks(&self) {
+        println!("\nblocks of 42 in SPI mode");
+        let mut wanted: Vec<_> = OPERATIONS.into_iter().map(|name| (name, outcomes(name, true))).collect();
+        wanted.extend([
+            ("length", names(&LENGTHS.map(|(_, name)| name))),
+            ("protection at force erase", names(&PROTECTIONS)),
+            ("too short", names(&["1", "2", "2 and L"])),
+            ("password", names(&MATCHES)),
+            ("damaged", names(&OPERATIONS)),
+        ]);
+        self.tally.print(&wanted);
     }
 }
 

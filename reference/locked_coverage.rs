@@ -20,7 +20,7 @@ impl LockedCoverage {
     pub fn call(&mut self, call: &Call, step: &Step) {
         match call {
             Call::Power(power) => self.power(power, step),
-            Call::Cmd(frame, Frame::Sound) => self.command(frame, step),
+            Call::Cmd(frame, Frame::Sound, _) => self.command(frame, step),
             _ => {}
         }
     }

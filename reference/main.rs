@@ -10,6 +10,10 @@ mod checks;
 mod lines;
 #[cfg(test)]
 mod lock_checks;
+#[cfg(test)]
+mod spi_block_checks;
+#[cfg(test)]
+mod spi_checks;
 
 use lines::{Bench, LONGEST_LINE};
 use std::cell::RefCell;

@@ -1,7 +1,8 @@
 //! The programs that the differential tester drives, and what it says of a difference.
 
 use crate::calls::Call;
-use crate::card::State;
+use crate::card::Card;
+use crate::spi_coverage::met;
 use std::collections::VecDeque;
 use std::io::{BufRead, BufReader, Write};
 use std::process::{Child, ChildStdin, Command, Stdio};
@@ -83,7 +84,7 @@ pub struct History {
 }
 
 impl History {
-    pub fn push(&mut self, call: &Call, state: State, answers: &[Answer; 2]) {
+    pub fn push(&mut self, call: &Call, card: &Card, answers: &[Answer; 2]) {
         let line = call.line();
         self.lines.extend_from_slice(&line);
         self.lines.push(b'\n');
@@ -91,7 +92,7 @@ impl History {
         if self.context.len() == CONTEXT {
             self.context.pop_front();
         }
-        let name = format!("{state:?}").to_lowercase();
+        let name = met(card);
         self.context.push_back(format!(
             "{name:5} {:16} {} => {}",
             call.name(),

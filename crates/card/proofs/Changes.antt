@@ -9,20 +9,26 @@ use Rattle.reg_csd.specs.Csd.{csdValues}
 use Rattle.card.specs.declared.Settings.{Settings}
 use Rattle.card.specs.declared.Source.{Source}
 use Rattle.card.specs.declared.Sink.the-variants.{LockUnlock}
+use Rattle.card.specs.declared.Mode.the-variants.{Spi}
 use Rattle.card.specs.declared.State.{State}
 use Rattle.card.specs.declared.Open.the-variants.{Nothing, Read, Write}
 use Rattle.card.specs.declared.EraseMarks.{EraseMarks}
 use Rattle.card.specs.declared.Core.{Core}
 use Rattle.card.specs.Settings.{BLOCK, capacity, allowed, csdOf}
-use Rattle.card.specs.Record.{withSettings, withState, withWritten, withErase, withLength, withMarks, withPolls, withRca, noErase}
-use Rattle.card.specs.State.{number, openOf, sourceAddress, sink}
+use Rattle.card.specs.Record.{withSettings, withState, withWritten, withErase, withLength, withMarks, withPolls, withRca, withMode, noErase}
+use Rattle.card.specs.State.{number, inSpi, unchecked, openOf, sourceAddress, sink}
 use Rattle.card.specs.Execute.{reset}
 use Rattle.card.specs.Data.{withoutTemporary}
 use Rattle.card.specs.Soundness.{badRca}
 use Rattle.card.proofs.Facts.{Transfer, Pending, Marked, Fixed, Size, Sturdy, equal-refl}
 
+-- in SPI mode nothing is asked of the RCA
+pub spi-rca : (n rca : ℕ) → badRca true n rca ≡ false
+unfolding badRca
+spi-rca n rca = refl
+
 module _ (c : Core) (f : Sturdy c) where
-  pub stand : (state : State) (rca n : ℕ) → Transfer (c .settings) (openOf state) n → badRca (number state) rca ≡ false
+  pub stand : (state : State) (rca n : ℕ) → Transfer (c .settings) (openOf state) n → badRca (inSpi (c .bus .mode)) (number state) rca ≡ false
       → Sturdy (withWritten (withState (withRca c rca) state) n)
   stand state rca n t r = record { fixed = f .fixed; polls = f .polls; size = f .size; transfer = t; erase = f .erase; rca = r; marks = f .marks }
 
@@ -37,6 +43,18 @@ module _ (c : Core) (f : Sturdy c) where
 
   pub poll : (n : ℕ) → n ≤ c .settings .polls → Sturdy (withPolls c n)
   poll n h = record { fixed = f .fixed; polls = h; size = f .size; transfer = f .transfer; erase = f .erase; rca = f .rca; marks = f .marks }
+
+  -- SPI mode
+  pub inMode : (b : Bool) → Sturdy (withMode c (Spi b))
+  inMode b = record {
+    fixed = f .fixed;
+    polls = f .polls;
+    size = f .size;
+    transfer = f .transfer;
+    erase = f .erase;
+    rca = spi-rca (number (c .bus .state)) (c .bus .rca);
+    marks = f .marks;
+  }
 
   -- temporary protection goes, and the CSD follows
   pub unprotect : Sturdy (withSettings c (withoutTemporary (c .settings)))
@@ -75,14 +93,18 @@ lock-transfer s n h = record { inside = omega arith; aligned = refl; count = h; 
 
 -- ---- command 0 and a power-up
 
-pub reset-sturdy : (c : Core) → Fixed (c .settings) (c .csd) → Marked (c .settings) (c .marks) → Sturdy (reset c)
+idle-rca : (spi : Bool) → badRca spi 0 0 ≡ false
 unfolding badRca
+idle-rca true = refl
+idle-rca false = refl
+
+pub reset-sturdy : (c : Core) → Fixed (c .settings) (c .csd) → Marked (c .settings) (c .marks) → Sturdy (reset c)
 reset-sturdy c fixed marks = record {
   fixed = fixed;
   polls = omega arith;
   size = omega arith;
   transfer = none-transfer (c .settings) 0 (omega arith);
   erase = none-pending (c .settings);
-  rca = refl;
+  rca = idle-rca (inSpi (unchecked (c .bus .mode)));
   marks = marks;
 }

@@ -2,15 +2,15 @@
 use mathlib.Core.Path.{_≡_, refl}
 use mathlib.Core.Bool.{true, false, _&&_, and-eq-true-iff}
 use mathlib.Core.List.{[]}
-use Prim.Native.Nat.{ℕ, _<_}
+use Prim.Native.Nat.{ℕ, _%_, _<_}
 use native.Mathlib.Omega.{arith}
 use borrow.Author.Tests.{leb-true}
-use lib.Dec.{leb}
+use lib.Dec.{eqb, leb}
 use Rattle.card.specs.declared.Source.{Source}
 use Rattle.card.specs.declared.Source.the-variants.{WriteProtect, WrittenBlocks}
 use Rattle.card.specs.declared.Core.{Core}
 use Rattle.card.specs.declared.command.Command.{Command}
-use Rattle.card.specs.declared.command.Command.the-variants.{GoIdleState, AllSendCid, SendRelativeAddr, SelectCard, DeselectCard, SendIfCond, SendCsd, SendCid, StopTransmission, SendStatus, AppCmd, GoInactiveState, SetBlocklen, ReadSingleBlock, ReadMultipleBlock, SendWriteProt, WriteBlock, WriteMultipleBlock, LockUnlock, SetWriteProt, ClrWriteProt, Erase, EraseWrBlkStart, EraseWrBlkEnd, SdStatus, SendNumWrBlocks, SendScr, SetWrBlkEraseCount, SetClrCardDetect, SdSendOpCond, Unknown}
+use Rattle.card.specs.declared.command.Command.the-variants.{GoIdleState, AllSendCid, SendRelativeAddr, SelectCard, DeselectCard, SendIfCond, SendCsd, SendCid, StopTransmission, SendStatus, AppCmd, GoInactiveState, SetBlocklen, ReadSingleBlock, ReadMultipleBlock, SendWriteProt, WriteBlock, WriteMultipleBlock, LockUnlock, SetWriteProt, ClrWriteProt, Erase, EraseWrBlkStart, EraseWrBlkEnd, SdStatus, SendNumWrBlocks, SendScr, SetWrBlkEraseCount, SetClrCardDetect, SdSendOpCond, ReadOcr, CrcOnOff, Unknown}
 use Rattle.card.specs.declared.done.Response.the-variants.{R1}
 use Rattle.card.specs.Settings.{BLOCK, capacity}
 use Rattle.card.specs.Table.{row, legal}
@@ -18,8 +18,8 @@ use Rattle.card.specs.Checks.{addressChecks}
 use Rattle.card.specs.Execute.{ran, setBlocklen, runAt}
 use Rattle.card.proofs.Choices.{cond-elim}
 use Rattle.card.proofs.Facts.{Sturdy}
-use Rattle.card.proofs.Changes.{resize, reset-sturdy}
-use Rattle.card.proofs.Moves.{all, keepsRca, from}
+use Rattle.card.proofs.Changes.{resize, inMode, reset-sturdy}
+use Rattle.card.proofs.Moves.{all, keepsRca, selects}
 use Rattle.card.proofs.Started.{Right, right, checked-right, address-in}
 use Rattle.card.proofs.Opened.{moved-right, data-right, read-right, rcv-right, lock-right, marks-right}
 use Rattle.card.proofs.Identified.{publish-right, poll-right}
@@ -34,16 +34,16 @@ length-right c f a =
     (λ e. right f refl refl)
 
 -- x is the argument, a the address that it means
-pub run-right : (k : Command) (c : Core) (x a : ℕ) → Sturdy c → legal k (c .bus .state) ≡ true → Right c (runAt k c x a)
-unfolding runAt all keepsRca from row
+pub run-right : (k : Command) (c : Core) (x a : ℕ) → Sturdy c → legal k (c .bus) ≡ true → Right c (runAt k c x a)
+unfolding runAt all keepsRca selects row
 run-right GoIdleState c x a f p = right (reset-sturdy c (f .fixed) (f .marks)) refl refl
 run-right AllSendCid c x a f p = moved-right c f AllSendCid p _ refl
 run-right SendRelativeAddr c x a f p = publish-right c f p x a
 run-right SelectCard c x a f p = moved-right c f SelectCard p _ refl
 run-right DeselectCard c x a f p = moved-right c f DeselectCard p _ refl
 run-right SendIfCond c x a f p = right f refl refl
-run-right SendCsd c x a f p = right f refl refl
-run-right SendCid c x a f p = right f refl refl
+run-right SendCsd c x a f p = data-right c f SendCsd p Source.Csd refl refl (omega arith) _
+run-right SendCid c x a f p = data-right c f SendCid p Source.Cid refl refl (omega arith) _
 run-right StopTransmission c x a f p = moved-right c f StopTransmission p _ refl
 run-right SendStatus c x a f p = right f refl refl
 run-right AppCmd c x a f p = right f refl refl
@@ -54,7 +54,7 @@ run-right ReadMultipleBlock c x a f p = read-right c f ReadMultipleBlock p true 
 run-right SendWriteProt c x a f p =
     let top = capacity (c .settings) in
     checked-right c (addressChecks top a) _ f
-    (λ e. data-right c f SendWriteProt p (WriteProtect a) refl refl (let h : a < top = address-in top a [] e in omega arith))
+    (λ e. data-right c f SendWriteProt p (WriteProtect a) refl refl (let h : a < top = address-in top a [] e in omega arith) _)
 run-right WriteBlock c x a f p = rcv-right c f WriteBlock p false a refl refl
 run-right WriteMultipleBlock c x a f p = rcv-right c f WriteMultipleBlock p true a refl refl
 run-right LockUnlock c x a f p = lock-right c f LockUnlock p refl refl
@@ -63,10 +63,12 @@ run-right ClrWriteProt c x a f p = marks-right c f ClrWriteProt p false a refl
 run-right Erase c x a f p = erase-right c f p
 run-right EraseWrBlkStart c x a f p = start-right c f a
 run-right EraseWrBlkEnd c x a f p = end-right c f a
-run-right SdStatus c x a f p = data-right c f SdStatus p Source.SdStatus refl refl (omega arith)
-run-right SendNumWrBlocks c x a f p = data-right c f SendNumWrBlocks p WrittenBlocks refl refl (omega arith)
-run-right SendScr c x a f p = data-right c f SendScr p Source.Scr refl refl (omega arith)
+run-right SdStatus c x a f p = data-right c f SdStatus p Source.SdStatus refl refl (omega arith) _
+run-right SendNumWrBlocks c x a f p = data-right c f SendNumWrBlocks p WrittenBlocks refl refl (omega arith) _
+run-right SendScr c x a f p = data-right c f SendScr p Source.Scr refl refl (omega arith) _
 run-right SetWrBlkEraseCount c x a f p = right f refl refl
 run-right SetClrCardDetect c x a f p = right f refl refl
 run-right SdSendOpCond c x a f p = poll-right c f x p
+run-right ReadOcr c x a f p = right f refl refl
+run-right CrcOnOff c x a f p = right (inMode c f (eqb (x % 2) 1)) refl refl
 run-right Unknown c x a f p = right f refl refl

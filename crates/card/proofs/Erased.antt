@@ -75,7 +75,7 @@ module _ (c : Core) (f : Sturdy c) where
       (λ e. record { sturdy = dropped; state = refl; settings = refl; marks = refl })
 
 -- a sweep inside the card
-sweep-right : (c : Core) → Sturdy c → legal Erase (c .bus .state) ≡ true → (first count : ℕ) → first + count ≤ c .settings .blocks
+sweep-right : (c : Core) → Sturdy c → legal Erase (c .bus) ≡ true → (first count : ℕ) → first + count ≤ c .settings .blocks
     → Right c (record { core = moved Erase (dropErase (skipped c first count)); response = R1; effect = Sweep first count })
 unfolding all keepsRca row
 sweep-right c f permitted first count inside =
@@ -88,7 +88,7 @@ sweep-right c f permitted first count inside =
     }
 
 -- the last block of the sweep is a block of the card
-pub erase-right : (c : Core) → Sturdy c → legal Erase (c .bus .state) ≡ true → Right c (erase c)
+pub erase-right : (c : Core) → Sturdy c → legal Erase (c .bus) ≡ true → Right c (erase c)
 unfolding erase all keepsRca row
 erase-right c f permitted =
     let first = address (c .erase .first) in

@@ -14,7 +14,7 @@ use Rattle.card.specs.declared.Open.{Open}
 use Rattle.card.specs.declared.EraseMarks.{EraseMarks}
 use Rattle.card.specs.declared.Core.{Core}
 use Rattle.card.specs.Settings.{BLOCK, capacity, groups, allowed, csdOf}
-use Rattle.card.specs.State.{number, openOf, transferAddress}
+use Rattle.card.specs.State.{number, inSpi, openOf, transferAddress}
 use Rattle.card.specs.Soundness.{equal, writtenMost, offWrite, markOutside, badRca, markedFrom, badApp, unsoundTests, anyOf, unsound}
 use Rattle.card.proofs.Choices.{neither, nor, both, not-both}
 
@@ -42,21 +42,21 @@ pub record Size (n : ℕ) : Type 0 where
   pub high : n ≤ BLOCK
 
 -- over the parts, so that what a command leaves alone needs no law
-pub record Parts (s : Settings) (d : Csd) (state : State) (address left : ℕ) (e : EraseMarks) (length written : ℕ) (m : List ℕ) : Type 0 where
+pub record Parts (s : Settings) (d : Csd) (spi : Bool) (state : State) (address left : ℕ) (e : EraseMarks) (length written : ℕ) (m : List ℕ) : Type 0 where
   pub fixed : Fixed s d
   pub polls : left ≤ s .polls
   pub size : Size length
   pub transfer : Transfer s (openOf state) written
   pub erase : Pending s e
-  pub rca : badRca (number state) address ≡ false
+  pub rca : badRca spi (number state) address ≡ false
   pub marks : Marked s m
 
 -- all but the application mark, which a command sets last
 abbrev pub Sturdy : Core → Type 0
-Sturdy c = Parts (c .settings) (c .csd) (c .bus .state) (c .bus .rca) (c .bus .polls) (c .erase) (c .length) (c .written) (c .marks)
+Sturdy c = Parts (c .settings) (c .csd) (inSpi (c .bus .mode)) (c .bus .state) (c .bus .rca) (c .bus .polls) (c .erase) (c .length) (c .written) (c .marks)
 
 abbrev pub Facts : Core → Type 0
-Facts c = Sturdy c × (badApp (number (c .bus .state)) (c .bus .app) ≡ false)
+Facts c = Sturdy c × (badApp (inSpi (c .bus .mode)) (number (c .bus .state)) (c .bus .app) ≡ false)
 
 pub equal-refl : (xs : List ℕ) → equal xs xs ≡ true
 unfolding equal

@@ -1,39 +1,38 @@
 -- A frame keeps a record sound: the frame rules, and the application mark that a command leaves.
 use mathlib.Core.Path.{_≡_, refl, sym, ap, subst, _∙_}
-use mathlib.Core.Bool.{Bool, true, false, _&&_, _||_, and-eq-true-iff}
+use mathlib.Core.Bool.{Bool, true, false}
 use mathlib.Core.List.{List, []}
 use Prim.Native.Nat.{ℕ}
-use lib.Dec.{eqb}
-use Rattle.wire_frame.specs.Command.{frameCheck}
-use Rattle.wire_frame.specs.declared.command.FrameCheck.{FrameCheck}
-use Rattle.wire_frame.specs.declared.command.FrameCheck.the-variants.{Good, Size, Start, Check}
 use Rattle.card.specs.declared.Settings.{Settings}
 use Rattle.card.specs.declared.State.{State}
 use Rattle.card.specs.declared.State.the-variants.{Idle, Ready, Ident, Stby, Tran, Data, Rcv, Prg, Dis, Ina}
+use Rattle.card.specs.declared.Bus.{Bus}
 use Rattle.card.specs.declared.Kept.{Kept}
 use Rattle.card.specs.declared.Core.{Core}
 use Rattle.card.specs.declared.command.Command.{Command}
-use Rattle.card.specs.declared.command.Command.the-variants.{GoIdleState, AllSendCid, SendRelativeAddr, SelectCard, DeselectCard, SendIfCond, SendCsd, SendCid, StopTransmission, SendStatus, AppCmd, GoInactiveState, SetBlocklen, ReadSingleBlock, ReadMultipleBlock, SendWriteProt, WriteBlock, WriteMultipleBlock, LockUnlock, SetWriteProt, ClrWriteProt, Erase, EraseWrBlkStart, EraseWrBlkEnd, SdStatus, SendNumWrBlocks, SendScr, SetWrBlkEraseCount, SetClrCardDetect, SdSendOpCond, Unknown}
+use Rattle.card.specs.declared.command.Command.the-variants.{GoIdleState, AllSendCid, SendRelativeAddr, SelectCard, DeselectCard, SendIfCond, SendCsd, SendCid, StopTransmission, SendStatus, AppCmd, GoInactiveState, SetBlocklen, ReadSingleBlock, ReadMultipleBlock, SendWriteProt, WriteBlock, WriteMultipleBlock, LockUnlock, SetWriteProt, ClrWriteProt, Erase, EraseWrBlkStart, EraseWrBlkEnd, SdStatus, SendNumWrBlocks, SendScr, SetWrBlkEraseCount, SetClrCardDetect, SdSendOpCond, ReadOcr, CrcOnOff, Unknown}
 use Rattle.card.specs.declared.done.Response as Response
 use Rattle.card.specs.declared.done.Response.{Response}
 use Rattle.card.specs.declared.done.Response.the-variants.{R1, R6, Cid, Csd, R3, R7}
 use Rattle.card.specs.declared.done.Effect.the-variants.{Nothing}
 use Rattle.card.specs.declared.done.Done.{Done}
-use Rattle.card.specs.declared.done.Judged.{Judged}
 use Rattle.card.specs.declared.done.Flag.{Flag}
 use Rattle.card.specs.Settings.{addressOf}
 use Rattle.card.specs.Record.{noErase, withKept, withApp}
-use Rattle.card.specs.State.{number, ina}
-use Rattle.card.specs.Table.{row, commandOf, own, misses, setsApp, has, legal, accepts}
-use Rattle.card.specs.Execute.{pending, settled, runAt, run}
-use Rattle.card.specs.Frame.{Message, Turn, judge, cleared, finish, showSd, byCheck, receive}
+use Rattle.card.specs.State.{number, inSpi, numberIn}
+use Rattle.card.specs.Table.{row, moves, setsApp, has, legal}
+use Rattle.card.specs.Execute.{pending, settled, runAt}
+use Rattle.card.specs.Frame.{Message, Turn, cleared, finish}
+use Rattle.card.specs.Spi.{finishSpi}
+use Rattle.card.specs.Receive.{chosen, receive}
 use Rattle.card.specs.Soundness.{badApp}
 use Rattle.card.proofs.Choices.{cond-elim}
 use Rattle.card.proofs.Facts.{Sturdy, Facts}
-use Rattle.card.proofs.Changes.{pend, none-pending}
+use Rattle.card.proofs.Changes.{pend, inMode, none-pending}
 use Rattle.card.proofs.Commands.{run-right}
 use Rattle.card.proofs.Erased.{Alike}
 use Rattle.card.proofs.Extent.{Inside}
+use Rattle.card.proofs.Received.{Permitted, doing, receive-elim}
 use Rattle.card.proofs.Started.{Right}
 
 -- what a call comes to
@@ -49,55 +48,70 @@ lasting f e = record { facts = f; blocks = e; inside = tt }
 
 -- ---- the application mark
 
--- 55 runs where the mark may stand
-app-on : (s : State) → legal AppCmd s ≡ true → badApp (number s) true ≡ false
-unfolding badApp legal row has
-app-on Idle p = refl
-app-on Ready p = sym p
-app-on Ident p = sym p
-app-on Stby p = refl
-app-on Tran p = refl
-app-on (Data s) p = refl
-app-on (Rcv s) p = refl
-app-on Prg p = refl
-app-on Dis p = refl
-app-on Ina p = sym p
+-- none, in any state
+app-off : (spi : Bool) (n : ℕ) → badApp spi n false ≡ false
+unfolding badApp
+app-off true n = refl
+app-off false n = refl
+
+-- 55 runs where the mark may stand; in SPI mode it may stand anywhere
+app-here : (spi : Bool) (s : State) → has (moves spi AppCmd) (numberIn spi s) ≡ true → badApp spi (number s) true ≡ false
+unfolding badApp moves numberIn row has
+app-here true s p = refl
+app-here false Idle p = refl
+app-here false Ready p = sym p
+app-here false Ident p = sym p
+app-here false Stby p = refl
+app-here false Tran p = refl
+app-here false (Data s) p = refl
+app-here false (Rcv s) p = refl
+app-here false Prg p = refl
+app-here false Dis p = refl
+app-here false Ina p = sym p
+
+app-on : (b : Bus) → legal AppCmd b ≡ true → badApp (inSpi (b .mode)) (number (b .state)) true ≡ false
+unfolding legal
+app-on b p = app-here (inSpi (b .mode)) (b .state) p
 
 -- the state that a command leaves may bear the mark that it leaves
-app-after : (k : Command) (c : Core) (x a : ℕ) → legal k (c .bus .state) ≡ true
-    → badApp (number (runAt k c x a .core .bus .state)) (setsApp (row k .kind)) ≡ false
-unfolding badApp row runAt
-app-after GoIdleState c x a p = refl
-app-after AllSendCid c x a p = refl
-app-after SendRelativeAddr c x a p = refl
-app-after SelectCard c x a p = refl
-app-after DeselectCard c x a p = refl
-app-after SendIfCond c x a p = refl
-app-after SendCsd c x a p = refl
-app-after SendCid c x a p = refl
-app-after StopTransmission c x a p = refl
-app-after SendStatus c x a p = refl
-app-after AppCmd c x a p = app-on (c .bus .state) p
-app-after GoInactiveState c x a p = refl
-app-after SetBlocklen c x a p = refl
-app-after ReadSingleBlock c x a p = refl
-app-after ReadMultipleBlock c x a p = refl
-app-after SendWriteProt c x a p = refl
-app-after WriteBlock c x a p = refl
-app-after WriteMultipleBlock c x a p = refl
-app-after LockUnlock c x a p = refl
-app-after SetWriteProt c x a p = refl
-app-after ClrWriteProt c x a p = refl
-app-after Erase c x a p = refl
-app-after EraseWrBlkStart c x a p = refl
-app-after EraseWrBlkEnd c x a p = refl
-app-after SdStatus c x a p = refl
-app-after SendNumWrBlocks c x a p = refl
-app-after SendScr c x a p = refl
-app-after SetWrBlkEraseCount c x a p = refl
-app-after SetClrCardDetect c x a p = refl
-app-after SdSendOpCond c x a p = refl
-app-after Unknown c x a p = refl
+abbrev AppRight : Command → Done → Type 0
+AppRight k d = badApp (inSpi (d .core .bus .mode)) (number (d .core .bus .state)) (setsApp (row k .kind)) ≡ false
+
+app-after : (k : Command) (c : Core) (x a : ℕ) → legal k (c .bus) ≡ true → AppRight k (runAt k c x a)
+unfolding row runAt
+app-after GoIdleState c x a p = app-off _ _
+app-after AllSendCid c x a p = app-off _ _
+app-after SendRelativeAddr c x a p = app-off _ _
+app-after SelectCard c x a p = app-off _ _
+app-after DeselectCard c x a p = app-off _ _
+app-after SendIfCond c x a p = app-off _ _
+app-after SendCsd c x a p = app-off _ _
+app-after SendCid c x a p = app-off _ _
+app-after StopTransmission c x a p = app-off _ _
+app-after SendStatus c x a p = app-off _ _
+app-after AppCmd c x a p = app-on (c .bus) p
+app-after GoInactiveState c x a p = app-off _ _
+app-after SetBlocklen c x a p = app-off _ _
+app-after ReadSingleBlock c x a p = app-off _ _
+app-after ReadMultipleBlock c x a p = app-off _ _
+app-after SendWriteProt c x a p = app-off _ _
+app-after WriteBlock c x a p = app-off _ _
+app-after WriteMultipleBlock c x a p = app-off _ _
+app-after LockUnlock c x a p = app-off _ _
+app-after SetWriteProt c x a p = app-off _ _
+app-after ClrWriteProt c x a p = app-off _ _
+app-after Erase c x a p = app-off _ _
+app-after EraseWrBlkStart c x a p = app-off _ _
+app-after EraseWrBlkEnd c x a p = app-off _ _
+app-after SdStatus c x a p = app-off _ _
+app-after SendNumWrBlocks c x a p = app-off _ _
+app-after SendScr c x a p = app-off _ _
+app-after SetWrBlkEraseCount c x a p = app-off _ _
+app-after SetClrCardDetect c x a p = app-off _ _
+app-after SdSendOpCond c x a p = app-off _ _
+app-after ReadOcr c x a p = app-off _ _
+app-after CrcOnOff c x a p = app-off _ _
+app-after Unknown c x a p = app-off _ _
 
 -- ---- a command that runs
 
@@ -120,8 +134,7 @@ cleared-kept Csd c = (_, refl)
 cleared-kept (R3 ocr) c = (_, refl)
 cleared-kept (R7 voltage pattern) c = (_, refl)
 
-finish-lasting : (k : Command) (n : ℕ) (c : Core) (d : Done) → Right c d → badApp (number (d .core .bus .state)) (setsApp (row k .kind)) ≡ false
-    → Lasting c (finish k n d)
+finish-lasting : (k : Command) (n : ℕ) (c : Core) (d : Done) → Right c d → AppRight k d → Lasting c (finish k n d)
 finish-lasting k n c d f app =
     let b = setsApp (row k .kind) in
     let e : cleared (d .response) (d .core) ≡ withKept (d .core) _ = cleared-kept (d .response) (d .core) .1 in
@@ -131,40 +144,48 @@ finish-lasting k n c d f app =
       inside = f .inside;
     }
 
-pub judge-lasting : (c : Core) (index argument : ℕ) → Facts c → Lasting c (showSd c (judge c index argument))
-unfolding judge showSd badApp
-judge-lasting c index argument f =
-    let k = commandOf (c .bus) index argument in
-    let d = settled k c in
-    let s : Alike c d = settled-alike k c (f .0) in
-    let P : Judged → Type 0 = λ j. Lasting c (showSd c j) in
-    let off : Facts (withApp c false) = (f .0, refl) in
-    cond-elim P (accepts k (c .locked) && legal k (c .bus .state))
-    (λ p.
-    let permitted : legal k (c .bus .state) ≡ true = and-eq-true-iff (accepts k (c .locked)) (legal k (c .bus .state)) .0 p .1 in
-    cond-elim P (misses (row k .rca) (own (c .bus) argument)) (λ t. lasting off refl)
-    (λ t.
-    let here : legal k (d .bus .state) ≡ true = rw (s .state) permitted in
-    let a = addressOf (d .settings) argument in
-    let r : Right d (run k d argument) = run-right k d argument a (s .sturdy) here in
-    let mine : Right c (run k d argument) =
-    record {
-      sturdy = r .sturdy;
-      settings = r .settings ∙ s .settings;
-      marks = r .marks ∙ s .marks;
-      inside = subst (λ (x : Settings). Inside x (run k d argument .effect) []) (s .settings) (r .inside);
-    } in
-    finish-lasting k (number (c .bus .state)) c (run k d argument) mine (app-after k d argument a here)))
-    (λ t. lasting off refl)
+-- in SPI mode
+finishSpi-lasting : (k : Command) (held : Kept) (c : Core) (d : Done) → Right c d → AppRight k d → Lasting c (finishSpi held k d)
+finishSpi-lasting k held c d f app =
+    record { facts = (f .sturdy, app); blocks = ap (λ (s : Settings). s .blocks) (f .settings); inside = f .inside }
 
-byCheck-lasting : (c : Core) → Facts c → (k : FrameCheck) → Lasting c (byCheck k c)
-unfolding byCheck
-byCheck-lasting c f (Good index argument) = judge-lasting c index argument f
-byCheck-lasting c f Size = lasting f refl
-byCheck-lasting c f Start = lasting f refl
-byCheck-lasting c f Check = lasting f refl
+chosen-right : {c : Core} {d : Done} → Right c d → Right c (chosen d)
+chosen-right {c} {d} f = record { sturdy = inMode (d .core) (f .sturdy) false; settings = f .settings; marks = f .marks; inside = f .inside }
 
-pub receive-lasting : (c : Core) (frame : List ℕ) → Facts c → Lasting c (receive c frame)
-unfolding receive
-receive-lasting c frame f =
-    cond-elim (λ (t : Turn). Lasting c t) (eqb (number (c .bus .state)) ina) (λ t. lasting f refl) (λ t. byCheck-lasting c f (frameCheck frame))
+-- ---- a frame
+
+module _ (c : Core) (f : Facts c) where
+  off : Facts (withApp c false)
+  off = (f .0, app-off (inSpi (c .bus .mode)) (number (c .bus .state)))
+
+  -- what a command that runs does, behind the erase marks that it drops
+  doing-right : (k : Command) (x : ℕ) → Permitted c k → Right c (doing c k x) × AppRight k (doing c k x)
+  doing-right k x may =
+      let d = settled k c in
+      let s : Alike c d = settled-alike k c (f .0) in
+      let here : legal k (d .bus) ≡ true = rw (s .state) (may .legal) in
+      let a = addressOf (d .settings) x in
+      let r : Right d (doing c k x) = run-right k d x a (s .sturdy) here in (
+        record {
+          sturdy = r .sturdy;
+          settings = r .settings ∙ s .settings;
+          marks = r .marks ∙ s .marks;
+          inside = subst (λ (t : Settings). Inside t (doing c k x .effect) []) (s .settings) (r .inside);
+        },
+        app-after k d x a here,
+      )
+
+  pub receive-lasting : (low : Bool) (frame : List ℕ) → Lasting c (receive c low frame)
+  unfolding badApp
+  receive-lasting =
+      receive-elim c (λ t. Lasting c t) (record {
+        still = lasting f refl;
+        damaged = lasting f refl;
+        elsewhere = lasting off refl;
+        illegal = lasting off refl;
+        runs = λ k x may. let r = doing-right k x may in finish-lasting k (number (c .bus .state)) c (doing c k x) (r .0) (r .1);
+        choosing = λ k x may zero. finishSpi-lasting k (c .kept) c (chosen (doing c k x)) (chosen-right (doing-right k x may .0)) refl;
+        damagedSpi = λ spi. lasting f refl;
+        illegalSpi = λ spi. lasting off refl;
+        runsSpi = λ spi k x may. let r = doing-right k x may in finishSpi-lasting k (c .kept) c (doing c k x) (r .0) (r .1);
+      })

@@ -3,7 +3,7 @@ use mathlib.Core.Path.{_≡_, refl, sym, ap, ap₂, _∙_}
 use mathlib.Core.Bool.{Bool, true, false, cond}
 use mathlib.Core.List.{List, [], _∷_, _++_, append-nil}
 use mathlib.Core.Option.{Option, some}
-use Prim.Native.Nat.{ℕ, suc, _+_, _*_, _/_, _^_}
+use Prim.Native.Nat.{ℕ, suc, _+_, _*_, _/_, _%_, _^_, _<_}
 use native.Mathlib.Omega.{arith}
 use borrow.Author.Tests.{eq-eqb}
 use lib.Dec.{eqb}
@@ -11,7 +11,7 @@ use lib.ListN.{length, getD, take, drop, set}
 use lib.Seq.{getD-set-other}
 use Rattle.crc.specs.Bits.{digit, bit, bits, number, bytes}
 use Rattle.crc.specs.Crc.{crc, poly7}
-use Rattle.crc.proofs.Bits.{bits-low, length-bits}
+use Rattle.crc.proofs.Bits.{digit-lt, bits-low, length-bits}
 use Rattle.crc.proofs.Register.{length-crc}
 use Rattle.codec.specs.Answer.{done}
 use Rattle.codec.specs.Layout.{write}
@@ -21,12 +21,12 @@ use Rattle.codec.proofs.RoundTrip.{length-image}
 use Rattle.wire_response.specs.Response as Wire
 use Rattle.wire_response.specs.Status.{shortStatus}
 use Rattle.card.specs.Status.{shown}
-use Rattle.card.specs.Frame.{Message, silence, r1, r6, plain, block, token, finished}
+use Rattle.card.specs.Frame.{Message, silence, r1, r6, spiR1, plain, block, token, finished}
 use Rattle.card.specs.Step.{commandFrame, sent, wire, replyOf}
-use Rattle.card.specs.History.{carrier, masked, unlessNone, hidden}
+use Rattle.card.specs.History.{carrier, masked, unlessNone, maskedR1, hiddenSd, hidden}
 use Rattle.card.proofs.Words.{Free, bits-shown}
 use Rattle.card.proofs.Mask.{masked-bytes}
-use Rattle.card.proofs.Messages.{Clean, Stateless, firstByte}
+use Rattle.card.proofs.Messages.{FreeR1, Clean, Stateless, firstByte}
 
 -- what a call writes: the message as a prefix of the buffer
 abbrev pub written : Bool → Message → List ℕ → List ℕ
@@ -62,11 +62,11 @@ first-masked n s =
     ∙ getD-set-other s (suc n) 0 _ 0 (λ q. let z : 0 ≡ suc n = q in omega arith)
 
 -- six bytes that a frame gets, with COM_CRC_ERROR at the top of byte n
-hidden-six : (n : ℕ) (frame before s rest : List ℕ) → length s ≡ 6 → carrier (getD (s ++ rest) 0 0) ≡ some n
-    → hidden (commandFrame frame before) (done (sent (length s))) (s ++ rest) ≡ masked n (s ++ rest)
-unfolding hidden
-hidden-six n frame before s rest h e =
-    ap₂ (λ (b : Bool) (o : Option ℕ). cond b (unlessNone o (s ++ rest)) (s ++ rest)) (eq-eqb (length s) 6 h) e
+hidden-six : (n : ℕ) (frame : List ℕ) (low : Bool) (before s rest : List ℕ) → length s ≡ 6 → carrier (getD (s ++ rest) 0 0) ≡ some n
+    → hidden false (commandFrame frame low before) (done (sent (length s))) (s ++ rest) ≡ masked n (s ++ rest)
+unfolding hidden hiddenSd
+hidden-six n frame low before s rest h e =
+    ap₂ (λ (b : Bool) (o : Option ℕ). cond b (unlessNone o (s ++ rest)) (cond (eqb (length s) 1) (maskedR1 (s ++ rest)) (s ++ rest))) (eq-eqb (length s) 6 h) e
 
 -- ---- R1: start and transmission bit, index and status bits 31..24; COM_CRC_ERROR; status bits 22..0
 
@@ -79,7 +79,7 @@ unfolding write bits headR1
 write-r1 index word crc h =
     ap (λ (x : List Bool). bits 1 0 ++ (bits 1 0 ++ (bits 6 index ++ x))) (append-nil (bits 32 (shown crc word)) ∙ bits-shown crc word h)
 
-module _ (index word : ℕ) (free : Free word) (told : carrier (firstByte index) ≡ some 2) (frame before out : List ℕ) where
+module _ (index word : ℕ) (free : Free word) (told : carrier (firstByte index) ≡ some 2) (frame : List ℕ) (low : Bool) (before out : List ℕ) where
   first-r1 : (p : Bool) → getD (written p (r1 index word) out) 0 0 ≡ firstByte index
   unfolding wire bits headR1 bytes
   first-r1 p =
@@ -88,15 +88,15 @@ module _ (index word : ℕ) (free : Free word) (told : carrier (firstByte index)
       (masked-image (Wire.r1 index) 2 2 (headR1 index word) (bits 23 word) refl refl refl refl refl out _ _ (write-r1 index word p free))
 
   seen-r1 : (p : Bool)
-      → hidden (commandFrame frame before) (done (replyOf p (r1 index word))) (written p (r1 index word) out) ≡ masked 2 (written p (r1 index word) out)
+      → hidden false (commandFrame frame low before) (done (replyOf p (r1 index word))) (written p (r1 index word) out) ≡ masked 2 (written p (r1 index word) out)
   unfolding replyOf wire
   seen-r1 p =
       let s = wire p (r1 index word) in
-      hidden-six 2 frame before s (drop (length s) out) (length-image (Wire.r1 index) (shown p word ∷ [])) (ap carrier (first-r1 p) ∙ told)
+      hidden-six 2 frame low before s (drop (length s) out) (length-image (Wire.r1 index) (shown p word ∷ [])) (ap carrier (first-r1 p) ∙ told)
 
   hidden-r1 : (p q : Bool)
-      → hidden (commandFrame frame before) (done (replyOf p (r1 index word))) (written p (r1 index word) out)
-      ≡ hidden (commandFrame frame before) (done (replyOf q (r1 index word))) (written q (r1 index word) out)
+      → hidden false (commandFrame frame low before) (done (replyOf p (r1 index word))) (written p (r1 index word) out)
+      ≡ hidden false (commandFrame frame low before) (done (replyOf q (r1 index word))) (written q (r1 index word) out)
   unfolding wire bits headR1
   hidden-r1 p q =
       seen-r1 p
@@ -122,7 +122,7 @@ write-r6 rca word crc =
     ∙ bits-of 16 (bit w 23 ∷ (bit w 22 ∷ (bit w 19 ∷ bits 13 w))) refl
     ∙ ap (λ (low : List Bool). bit w 23 ∷ tailR6 low) (bits-low 23 (digit crc) word))
 
-module _ (rca word : ℕ) (frame before out : List ℕ) where
+module _ (rca word : ℕ) (frame : List ℕ) (low : Bool) (before out : List ℕ) where
   first-r6 : (p : Bool) → getD (written p (r6 rca word) out) 0 0 ≡ 3
   unfolding wire bits number headR6 tailR6 bytes
   first-r6 p =
@@ -131,15 +131,15 @@ module _ (rca word : ℕ) (frame before out : List ℕ) where
       (masked-image Wire.r6 3 1 (headR6 rca) (tailR6 (bits 23 word)) refl refl refl refl refl out _ _ (write-r6 rca word p))
 
   seen-r6 : (p : Bool)
-      → hidden (commandFrame frame before) (done (replyOf p (r6 rca word))) (written p (r6 rca word) out) ≡ masked 3 (written p (r6 rca word) out)
+      → hidden false (commandFrame frame low before) (done (replyOf p (r6 rca word))) (written p (r6 rca word) out) ≡ masked 3 (written p (r6 rca word) out)
   unfolding replyOf wire carrier
   seen-r6 p =
       let s = wire p (r6 rca word) in
-      hidden-six 3 frame before s (drop (length s) out) (length-image Wire.r6 (rca ∷ (shortStatus (shown p word) ∷ []))) (ap carrier (first-r6 p))
+      hidden-six 3 frame low before s (drop (length s) out) (length-image Wire.r6 (rca ∷ (shortStatus (shown p word) ∷ []))) (ap carrier (first-r6 p))
 
   hidden-r6 : (p q : Bool)
-      → hidden (commandFrame frame before) (done (replyOf p (r6 rca word))) (written p (r6 rca word) out)
-      ≡ hidden (commandFrame frame before) (done (replyOf q (r6 rca word))) (written q (r6 rca word) out)
+      → hidden false (commandFrame frame low before) (done (replyOf p (r6 rca word))) (written p (r6 rca word) out)
+      ≡ hidden false (commandFrame frame low before) (done (replyOf q (r6 rca word))) (written q (r6 rca word) out)
   unfolding wire bits headR6 tailR6
   hidden-r6 p q =
       seen-r6 p
@@ -147,24 +147,55 @@ module _ (rca word : ℕ) (frame before out : List ℕ) where
       _ _ _ _ (write-r6 rca word p) (write-r6 rca word q)
       ∙ sym (seen-r6 q)
 
+-- ---- the R1 of the 0 that chooses SPI mode
+
+-- what is left without bit 3
+left-r1 : (high low : ℕ) (crc : Bool) → low < 8
+    → (digit crc * 2 ^ 3 + (low + 16 * high)) / 16 * 16 + (digit crc * 2 ^ 3 + (low + 16 * high)) % 8 ≡ high * 16 + low
+left-r1 high low crc h =
+    let d : digit crc < 2 = digit-lt crc in
+    let q : (digit crc * 2 ^ 3 + (low + 16 * high)) / 16 ≡ high = omega (arith, d, h) in
+    let r : (digit crc * 2 ^ 3 + (low + 16 * high)) % 8 ≡ low = omega (arith, d, h) in
+    ap₂ (λ (x y : ℕ). x * 16 + y) q r
+
+masked-r1 : (byte : ℕ) (s : List ℕ) → FreeR1 byte s → (p q : Bool) (out : List ℕ)
+    → maskedR1 (written p (spiR1 byte s) out) ≡ maskedR1 (written q (spiR1 byte s) out)
+unfolding wire
+masked-r1 byte s f p q out = ap (λ (x : ℕ). x ∷ (s ++ drop (suc (length s)) out)) (one p ∙ sym (one q))
+  where
+    one : (b : Bool) → (digit b * 2 ^ 3 + byte) / 16 * 16 + (digit b * 2 ^ 3 + byte) % 8 ≡ f .high * 16 + f .low
+    one b = ap (λ (x : ℕ). (digit b * 2 ^ 3 + x) / 16 * 16 + (digit b * 2 ^ 3 + x) % 8) (f .parts) ∙ left-r1 (f .high) (f .low) b (f .below)
+
+hidden-spi : (byte : ℕ) (s : List ℕ) → FreeR1 byte s → (frame : List ℕ) (low : Bool) (before out : List ℕ) (p q : Bool)
+    → hidden false (commandFrame frame low before) (done (replyOf p (spiR1 byte s))) (written p (spiR1 byte s) out)
+    ≡ hidden false (commandFrame frame low before) (done (replyOf q (spiR1 byte s))) (written q (spiR1 byte s) out)
+unfolding hidden hiddenSd replyOf wire
+hidden-spi byte s f frame low before out p q =
+    seen p ∙ masked-r1 byte s f p q out ∙ sym (seen q)
+  where
+    seen : (b : Bool) → hidden false (commandFrame frame low before) (done (replyOf b (spiR1 byte s))) (written b (spiR1 byte s) out) ≡ maskedR1 (written b (spiR1 byte s) out)
+    seen b = rw (f .alone) refl
+
 -- ---- every message
 
-pub hidden-same : (m : Message) → Clean m → (p q : Bool) (frame before out : List ℕ)
-    → hidden (commandFrame frame before) (done (replyOf p m)) (written p m out) ≡ hidden (commandFrame frame before) (done (replyOf q m)) (written q m out)
+pub hidden-same : (m : Message) → Clean m → (p q : Bool) (frame : List ℕ) (low : Bool) (before out : List ℕ)
+    → hidden false (commandFrame frame low before) (done (replyOf p m)) (written p m out) ≡ hidden false (commandFrame frame low before) (done (replyOf q m)) (written q m out)
 unfolding wire replyOf
-hidden-same silence h p q frame before out = refl
-hidden-same (r1 index word) h p q frame before out = hidden-r1 index word (h .0) (h .1) frame before out p q
-hidden-same (r6 rca word) h p q frame before out = hidden-r6 rca word frame before out p q
-hidden-same (plain s) h p q frame before out = refl
-hidden-same (block payload) h p q frame before out = refl
-hidden-same (token n) h p q frame before out = refl
-hidden-same finished h p q frame before out = refl
+hidden-same silence h p q frame low before out = refl
+hidden-same (r1 index word) h p q frame low before out = hidden-r1 index word (h .0) (h .1) frame low before out p q
+hidden-same (r6 rca word) h p q frame low before out = hidden-r6 rca word frame low before out p q
+hidden-same (spiR1 byte s) h p q frame low before out = hidden-spi byte s h frame low before out p q
+hidden-same (plain s) h p q frame low before out = refl
+hidden-same (block payload) h p q frame low before out = refl
+hidden-same (token n) h p q frame low before out = refl
+hidden-same finished h p q frame low before out = refl
 
 pub wire-same : (m : Message) → Stateless m → (p q : Bool) → wire p m ≡ wire q m
 unfolding wire
 wire-same silence h p q = refl
 wire-same (r1 index word) h p q = absurd h
 wire-same (r6 rca word) h p q = absurd h
+wire-same (spiR1 byte s) h p q = absurd h
 wire-same (plain s) h p q = refl
 wire-same (block payload) h p q = refl
 wire-same (token n) h p q = refl
@@ -177,6 +208,7 @@ reply-same (r1 index word) p q =
     ap sent (length-image (Wire.r1 index) (shown p word ∷ []) ∙ sym (length-image (Wire.r1 index) (shown q word ∷ [])))
 reply-same (r6 rca word) p q =
     ap sent (length-image Wire.r6 (rca ∷ (shortStatus (shown p word) ∷ [])) ∙ sym (length-image Wire.r6 (rca ∷ (shortStatus (shown q word) ∷ []))))
+reply-same (spiR1 byte s) p q = refl
 reply-same (plain s) p q = refl
 reply-same (block payload) p q = refl
 reply-same (token n) p q = refl

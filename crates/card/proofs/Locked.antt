@@ -5,30 +5,27 @@ use mathlib.Core.List.{List}
 use mathlib.Core.Option.{Option, none, some}
 use Prim.Native.Nat.{ℕ, _+_, _-_, _/_}
 use lib.Dec.{eqb, leb, ltb}
-use Rattle.wire_frame.specs.Command.{frameCheck}
-use Rattle.wire_frame.specs.declared.command.FrameCheck.{FrameCheck}
-use Rattle.wire_frame.specs.declared.command.FrameCheck.the-variants.{Good, Size, Start, Check as WrongCheck}
-use Rattle.wire_packet.specs.Packet.{packetRight}
 use Rattle.card.specs.declared.Source.{Source}
-use Rattle.card.specs.declared.Source.the-variants.{Blocks, WriteProtect, WrittenBlocks, Scr}
+use Rattle.card.specs.declared.Source.the-variants.{Blocks, WriteProtect, WrittenBlocks, Scr, Csd, Cid}
 use Rattle.card.specs.declared.Open.{Open}
 use Rattle.card.specs.declared.Open.the-variants.{Nothing, Read, Write, Busy}
 use Rattle.card.specs.declared.Core.{Core}
 use Rattle.card.specs.declared.command.Command.{Command}
-use Rattle.card.specs.declared.command.Command.the-variants.{GoIdleState, AllSendCid, SendRelativeAddr, SelectCard, DeselectCard, SendIfCond, SendCsd, SendCid, StopTransmission, SendStatus, AppCmd, GoInactiveState, SetBlocklen, ReadSingleBlock, ReadMultipleBlock, SendWriteProt, WriteBlock, WriteMultipleBlock, LockUnlock, SetWriteProt, ClrWriteProt, Erase, EraseWrBlkStart, EraseWrBlkEnd, SdStatus, SendNumWrBlocks, SendScr, SetWrBlkEraseCount, SetClrCardDetect, SdSendOpCond, Unknown}
+use Rattle.card.specs.declared.command.Command.the-variants.{GoIdleState, AllSendCid, SendRelativeAddr, SelectCard, DeselectCard, SendIfCond, SendCsd, SendCid, StopTransmission, SendStatus, AppCmd, GoInactiveState, SetBlocklen, ReadSingleBlock, ReadMultipleBlock, SendWriteProt, WriteBlock, WriteMultipleBlock, LockUnlock, SetWriteProt, ClrWriteProt, Erase, EraseWrBlkStart, EraseWrBlkEnd, SdStatus, SendNumWrBlocks, SendScr, SetWrBlkEraseCount, SetClrCardDetect, SdSendOpCond, ReadOcr, CrcOnOff, Unknown}
 use Rattle.card.specs.declared.done.Response.the-variants.{R1}
 use Rattle.card.specs.declared.done.Done.{Done}
-use Rattle.card.specs.declared.done.Judged.{Judged}
 use Rattle.card.specs.Settings.{BLOCK, capacity, addressOf}
 use Rattle.card.specs.Record.{isSet, address}
-use Rattle.card.specs.State.{number, ina}
-use Rattle.card.specs.Table.{row, commandOf, own, misses, legal, accepts}
+use Rattle.card.specs.State.{number, idle, inSpi}
+use Rattle.card.specs.Table.{row}
 use Rattle.card.specs.Protect.{whole, guarded, anyGuarded}
 use Rattle.card.specs.Checks.{Check, firstFailure, outside, crossing}
-use Rattle.card.specs.Execute.{ran, raise, checked, window, fitting, pending, settled, eraseStart, eraseEnd, skipped, erased, erase, sendOpCond, runAt, run}
-use Rattle.card.specs.Frame.{Turn, judge, finish, showSd, byCheck, receive}
+use Rattle.card.specs.Execute.{ran, raise, checked, window, fitting, pending, settled, eraseStart, eraseEnd, skipped, erased, erase, sendOpCond, sendOpCondSpi, sdSendOpCond, runAt}
+use Rattle.card.specs.Frame.{Turn}
+use Rattle.card.specs.Receive.{receive}
 use Rattle.card.specs.Data.{takeSource, takeFrom, writeInto, overFrom}
 use Rattle.card.proofs.Choices.{cond-either}
+use Rattle.card.proofs.Received.{doing, receive-elim}
 use Rattle.card.proofs.Frames.{cleared-kept}
 
 -- ---- commands
@@ -59,7 +56,7 @@ module _ (c : Core) where
       refl
 
   run-held : (k : Command) (x a : ℕ) → Held (runAt k c x a)
-  unfolding runAt sendOpCond eraseStart eraseEnd
+  unfolding runAt sdSendOpCond sendOpCondSpi sendOpCond eraseStart eraseEnd
   run-held GoIdleState x a = refl
   run-held AllSendCid x a = refl
   run-held SendRelativeAddr x a = refl
@@ -90,7 +87,11 @@ module _ (c : Core) where
   run-held SetWrBlkEraseCount x a = refl
   run-held SetClrCardDetect x a = refl
   run-held SdSendOpCond x a =
-      cond-either Held (eqb (window x) 0) refl (cond-either Held (eqb (fitting x) 0) refl (cond-either Held (eqb (c .bus .polls) 0) refl refl))
+      cond-either Held (inSpi (c .bus .mode))
+      (cond-either (λ (d : Core). d .locked ≡ c .locked) (eqb (number (c .bus .state)) idle) (cond-either (λ (d : Core). d .locked ≡ c .locked) (eqb (c .bus .polls) 0) refl refl) refl)
+      (cond-either Held (eqb (window x) 0) refl (cond-either Held (eqb (fitting x) 0) refl (cond-either Held (eqb (c .bus .polls) 0) refl refl)))
+  run-held ReadOcr x a = refl
+  run-held CrcOnOff x a = refl
   run-held Unknown x a = refl
 
 settled-held : (k : Command) (c : Core) → settled k c .locked ≡ c .locked
@@ -105,33 +106,24 @@ module _ (c : Core) where
   abbrev Stays : Turn → Type 0
   Stays t = t .core .locked ≡ c .locked
 
-  finish-held : (k : Command) (n : ℕ) (d : Done) → d .core .locked ≡ c .locked → Stays (finish k n d)
-  finish-held k n d h = ap (λ (x : Core). x .locked) (cleared-kept (d .response) (d .core) .1) ∙ h
+  doing-held : (k : Command) (x : ℕ) → doing c k x .core .locked ≡ c .locked
+  doing-held k x = let d = settled k c in run-held d k x (addressOf (d .settings) x) ∙ settled-held k c
 
-  judge-held : (index argument : ℕ) → Stays (showSd c (judge c index argument))
-  unfolding judge showSd
-  judge-held index argument =
-      let k = commandOf (c .bus) index argument in
-      let d = settled k c in
-      let P : Judged → Type 0 = λ j. Stays (showSd c j) in
-      cond-either P (accepts k (c .locked) && legal k (c .bus .state))
-      (cond-either P (misses (row k .rca) (own (c .bus) argument)) refl
-      (finish-held k (number (c .bus .state)) (run k d argument)
-      (run-held d k argument (addressOf (d .settings) argument) ∙ settled-held k c)))
-      refl
+  pub receive-held : (low : Bool) (frame : List ℕ) → Stays (receive c low frame)
+  receive-held =
+      receive-elim c Stays (record {
+        still = refl;
+        damaged = refl;
+        elsewhere = refl;
+        illegal = refl;
+        runs = λ k x may. ap (λ (d : Core). d .locked) (cleared-kept (doing c k x .response) (doing c k x .core) .1) ∙ doing-held k x;
+        choosing = λ k x may zero. doing-held k x;
+        damagedSpi = λ spi. refl;
+        illegalSpi = λ spi. refl;
+        runsSpi = λ spi k x may. doing-held k x;
+      })
 
-  check-held : (f : FrameCheck) → Stays (byCheck f c)
-  unfolding byCheck
-  check-held (Good index argument) = judge-held index argument
-  check-held Size = refl
-  check-held Start = refl
-  check-held WrongCheck = refl
-
-  pub receive-held : (frame : List ℕ) → Stays (receive c frame)
-  unfolding receive
-  receive-held frame = cond-either Stays (eqb (number (c .bus .state)) ina) refl (check-held (frameCheck frame))
-
-  source-held : (s : Source) (memory : List ℕ) → Stays (takeSource s c memory)
+  pub source-held : (s : Source) (memory : List ℕ) → Stays (takeSource s c memory)
   unfolding takeSource
   source-held (Blocks multiple address held) memory =
       cond-either Stays held refl
@@ -140,6 +132,8 @@ module _ (c : Core) where
   source-held Source.SdStatus memory = refl
   source-held WrittenBlocks memory = refl
   source-held Scr memory = refl
+  source-held Csd memory = refl
+  source-held Cid memory = refl
 
   pub take-held : (o : Open) (memory : List ℕ) → Stays (takeFrom o c memory)
   unfolding takeFrom
@@ -155,10 +149,10 @@ module _ (c : Core) where
   over-held (Write s) = refl
   over-held (Busy s) = refl
 
-  pub write-held : (multiple : Bool) (address : ℕ) (held : Bool) (packet : List ℕ) → Stays (writeInto multiple address held c packet)
+  pub write-held : (multiple : Bool) (address : ℕ) (held right : Bool) (payload : List ℕ) → Stays (writeInto multiple address held right c payload)
   unfolding writeInto
-  write-held multiple address held packet =
+  write-held multiple address held right payload =
       cond-either Stays held refl
-      (cond-either Stays (not (packetRight packet)) (cond-either (λ (d : Core). d .locked ≡ c .locked) multiple refl refl)
+      (cond-either Stays (not right) (cond-either (λ (d : Core). d .locked ≡ c .locked) multiple refl refl)
       (cond-either Stays (outside (capacity (c .settings)) address) refl
       (cond-either Stays (guarded (whole (c .settings)) (c .marks) address) refl refl)))

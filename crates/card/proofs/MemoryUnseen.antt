@@ -7,8 +7,9 @@ use Prim.Native.Nat.{ℕ}
 use lib.Dec.{eqb, leb, ltb}
 use lib.ListN.{length, replicate}
 use Rattle.codec.specs.Answer.{done}
-use Rattle.wire_packet.specs.Packet.{packetRight, payloadOf}
 use Rattle.card.specs.declared.Settings.{Settings}
+use Rattle.card.specs.declared.Source.{Source}
+use Rattle.card.specs.declared.Source.the-variants.{Blocks, WriteProtect, SdStatus, WrittenBlocks, Scr, Csd, Cid}
 use Rattle.card.specs.declared.Sink.the-variants.{Single, Multiple, LockUnlock}
 use Rattle.card.specs.declared.State.{State}
 use Rattle.card.specs.declared.State.the-variants.{Idle, Ready, Ident, Stby, Tran, Data, Rcv, Prg, Dis, Ina}
@@ -18,28 +19,30 @@ use Rattle.card.specs.declared.Open.the-variants.{Read, Write, Busy}
 use Rattle.card.specs.declared.Core.{Core}
 use Rattle.card.specs.declared.Card.{Card}
 use Rattle.card.specs.declared.Password.{Password}
+use Rattle.card.specs.declared.command.Command.the-variants.{StopTransmission}
 use Rattle.card.specs.declared.lock.Operation.{Operation}
 use Rattle.card.specs.declared.lock.Operation.the-variants.{ForceErase, Lock, Unlock, ClearPassword, SetPassword, Invalid}
 use Rattle.card.specs.declared.done.Effect.{Effect}
 use Rattle.card.specs.declared.done.Effect.the-variants.{Nothing}
 use Rattle.card.specs.declared.done.Flag.the-variants.{Keep}
-use Rattle.card.specs.Settings.{capacity}
+use Rattle.card.specs.Settings.{capacity, cidBytes, csdBytes, scrBytes}
 use Rattle.card.specs.Record.{withState, withMarks}
 use Rattle.card.specs.State.{openOf, locking, reading, writing, busy}
 use Rattle.card.specs.Status.{LOCK-UNLOCK-FAILED}
 use Rattle.card.specs.Soundness.{unsound, badPassword}
 use Rattle.card.specs.Protect.{whole}
-use Rattle.card.specs.Execute.{raise}
+use Rattle.card.specs.Execute.{raise, moved}
 use Rattle.card.specs.Effects.{Stored, stored, affected}
-use Rattle.card.specs.Frame.{Turn, token, quiet, receive}
+use Rattle.card.specs.Frame.{Turn, token, quiet, said}
+use Rattle.card.specs.Receive.{receive}
 use Rattle.card.specs.Lock.{operation}
-use Rattle.card.specs.Data.{said, operate, lockInto, writeInto, takeFrom, blockInto, passwordInto, overFrom, ACCEPTED, REJECTED}
-use Rattle.card.specs.Step.{Call, powerUp, commandFrame, blockIn, takeBlock, busyOver, World, world, Result, over, refuse, refusal, POWER-ROWS, FRAME-ROWS, BLOCK-ROWS, TAKE-ROWS, OVER-ROWS, unless, otherSize, FRAME, ROOM, blockSize, blockRoom, flagged, show, fresh, start, permitted, opened, success, powerRefusal, frameRefusal, blockRefusal, takeRefusal, overRefusal, poweredUp, framed, given, taken, overed, step, next}
+use Rattle.card.specs.Data.{word32, markBytes, single, operate, lockInto, writeInto, takeSource, takeFrom, blockInto, overFrom, ACCEPTED, REJECTED}
+use Rattle.card.specs.Step.{Call, powerUp, commandFrame, blockIn, takeBlock, busyOver, World, world, Result, over, refuse, refusal, POWER-ROWS, FRAME-ROWS, BLOCK-ROWS, TAKE-ROWS, OVER-ROWS, unless, otherSize, FRAME, ROOM, otherBlock, blockRoom, flagged, show, fresh, start, permitted, opened, Incoming, payload, stop, ignored, success, entered, arrived, led, handed, powerRefusal, frameRefusal, blockRefusal, takeRefusal, overRefusal, poweredUp, framed, given, taken, overed, step, next}
 use Rattle.card.specs.History.{Sound, Start}
-use Rattle.card.specs.Locked.{shut, Shut, StartsShut, KeepsShut, isForceErase, passes, forceErases, AlikeButMemory, AgreeButMemory, MemoryUnseen}
+use Rattle.card.specs.Locked.{erasesBy, sourceShut, shut, Shut, StartsShut, KeepsShut, isForceErase, passes, forceErases, AlikeButMemory, AgreeButMemory, MemoryUnseen}
 use Rattle.card.proofs.Choices.{cond-either, unless-keeps}
-use Rattle.card.proofs.Locked.{receive-held, take-held, over-held, write-held}
-use Rattle.card.proofs.Shut.{Closed, Quiet, receive-quiet}
+use Rattle.card.proofs.Locked.{receive-held, source-held, write-held}
+use Rattle.card.proofs.Shut.{Closed, after-closed, Quiet, receive-quiet}
 use Rattle.card.proofs.Sound.{keeps-sound}
 
 -- ---- a locked card stays shut
@@ -52,28 +55,45 @@ module _ (c : Core) (h : c .locked ≡ true → Closed (c .bus .state)) where
   held : (t : Turn) → t .core .locked ≡ c .locked → (c .locked ≡ true → Closed (t .core .bus .state)) → Keeps t
   held t e k = λ locked. k (sym e ∙ locked)
 
-  receive-shut : (frame : List ℕ) → Keeps (receive c frame)
-  receive-shut frame = held (receive c frame) (receive-held c frame) (λ locked. receive-quiet c locked (h locked) frame .closed)
+  receive-shut : (low : Bool) (frame : List ℕ) → Keeps (receive c low frame)
+  receive-shut low frame =
+      held (receive c low frame) (receive-held c low frame) (λ locked. receive-quiet c locked (h locked) low frame .closed)
 
-  lock-closed : (b : Bool) (s : List ℕ) → Closed (lockInto b c s .core .bus .state)
+  lock-closed : (right b : Bool) (s : List ℕ) → Closed (lockInto right b c s .core .bus .state)
   unfolding lockInto
-  lock-closed b s =
+  lock-closed right b s =
       let P : Turn → Type 0 = λ t. Closed (t .core .bus .state) in
-      cond-either P (not (packetRight s)) refl (cond-either P b refl refl)
+      cond-either P (not right) refl (cond-either P b refl refl)
 
-  block-shut : (o : Open) → (c .locked ≡ true → shut o ≡ true) → (b : Bool) (s : List ℕ) → Keeps (blockInto o b c s)
+  block-shut : (o : Open) → (c .locked ≡ true → shut o ≡ true) → (right b : Bool) (s : List ℕ) → Keeps (blockInto o right b c s)
   unfolding blockInto
-  block-shut Open.Nothing k b s = h
-  block-shut (Read x) k b s = h
-  block-shut (Write (Single a m)) k b s = held (writeInto false a m c s) (write-held c false a m s) (λ locked. absurd (false≢true (k locked)))
-  block-shut (Write (Multiple a m)) k b s = held (writeInto true a m c s) (write-held c true a m s) (λ locked. absurd (false≢true (k locked)))
-  block-shut (Write LockUnlock) k b s = λ locked. lock-closed b s
-  block-shut (Busy x) k b s = h
+  block-shut Open.Nothing k right b s = h
+  block-shut (Read x) k right b s = h
+  block-shut (Write (Single a m)) k right b s =
+      held (writeInto false a m right c s) (write-held c false a m right s) (λ locked. absurd (false≢true (k locked)))
+  block-shut (Write (Multiple a m)) k right b s =
+      held (writeInto true a m right c s) (write-held c true a m right s) (λ locked. absurd (false≢true (k locked)))
+  block-shut (Write LockUnlock) k right b s = λ locked. lock-closed right b s
+  block-shut (Busy x) k right b s = h
+
+  stop-shut : Keeps (quiet (moved StopTransmission c) Keep)
+  stop-shut = λ locked. after-closed StopTransmission (c .bus) (c .bus .state) (h locked)
+
+  source-shut : (x : Source) → (c .locked ≡ true → sourceShut x ≡ true) → (memory : List ℕ) → Keeps (takeSource x c memory)
+  unfolding takeSource
+  source-shut (Blocks multiple address m) k memory =
+      held (takeSource (Blocks multiple address m) c memory) (source-held c (Blocks multiple address m) memory) (λ locked. absurd (false≢true (k locked)))
+  source-shut (WriteProtect address) k memory = λ locked. refl
+  source-shut SdStatus k memory = λ locked. refl
+  source-shut WrittenBlocks k memory = λ locked. refl
+  source-shut Scr k memory = λ locked. refl
+  source-shut Csd k memory = λ locked. refl
+  source-shut Cid k memory = λ locked. refl
 
   take-shut : (o : Open) → (c .locked ≡ true → shut o ≡ true) → (memory : List ℕ) → Keeps (takeFrom o c memory)
   unfolding takeFrom
   take-shut Open.Nothing k memory = h
-  take-shut (Read x) k memory = held (takeFrom (Read x) c memory) (take-held c (Read x) memory) (λ locked. absurd (false≢true (k locked)))
+  take-shut (Read x) k memory = source-shut x k memory
   take-shut (Write x) k memory = h
   take-shut (Busy x) k memory = h
 
@@ -101,21 +121,24 @@ show-shut : (w : World) (p : Password) (out : List ℕ) (t : Turn) → (t .core 
 unfolding show
 show-shut w p out t h = h
 
+entered-shut : (w : World) → Shut w → (i : Incoming) → Good (entered w i)
+unfolding entered
+entered-shut w h (payload right s) = show-shut w _ [] _ (block-shut (w .card .core) h (opened w) h right (success w s) s)
+entered-shut w h stop = show-shut w _ [] _ (stop-shut (w .card .core) h)
+entered-shut w h ignored = show-shut w _ [] _ h
+
 pub keeps-shut : KeepsShut
 unfolding step poweredUp framed given taken overed
 keeps-shut w (powerUp s p) h =
     unless-keeps Good (powerRefusal w s p) w [] {x = record { answer = done over; world = world (start s p) (w .memory); out = [] }} (λ k. h)
     (λ e. start-shut s p (w .memory))
-keeps-shut w (commandFrame frame out) h =
-    unless-keeps Good (frameRefusal w frame out) w out {x = show w (w .card .password) out (receive (w .card .core) frame)} (λ k. h)
-    (λ e. show-shut w (w .card .password) out (receive (w .card .core) frame) (receive-shut (w .card .core) h frame))
+keeps-shut w (commandFrame frame low out) h =
+    unless-keeps Good (frameRefusal w frame out) w out {x = show w (w .card .password) out (receive (w .card .core) low frame)} (λ k. h)
+    (λ e. show-shut w (w .card .password) out (receive (w .card .core) low frame) (receive-shut (w .card .core) h low frame))
 keeps-shut w (blockIn s) h =
-    let t = blockInto (opened w) (success w s) (w .card .core) s in
-    let p = passwordInto (opened w) (success w s) (w .card .password) s in
-    unless-keeps Good (blockRefusal w s) w [] {x = show w p [] t} (λ k. h)
-    (λ e. show-shut w p [] t (block-shut (w .card .core) h (opened w) h (success w s) s))
+    unless-keeps Good (blockRefusal w s) w [] {x = entered w (arrived w s)} (λ k. h) (λ e. entered-shut w h (arrived w s))
 keeps-shut w (takeBlock out) h =
-    let t = takeFrom (opened w) (w .card .core) (w .memory) in
+    let t = handed w in
     unless-keeps Good (takeRefusal w out) w out {x = show w (w .card .password) out t} (λ k. h)
     (λ e. show-shut w (w .card .password) out t (take-shut (w .card .core) h (opened w) h (w .memory)))
 keeps-shut w busyOver h =
@@ -173,42 +196,52 @@ module _ (w : World) (m : List ℕ) (long : length (w .memory) ≡ length m) whe
   operate-alike (SetPassword lock) p = show-alike p [] (operate (SetPassword lock) core) refl
   operate-alike Invalid p = show-alike p [] (operate Invalid core) refl
 
-  lock-alike : (s : List ℕ) (b : Bool) (p : Password)
-      → Matched w (packetRight s && (b && isForceErase (operation (payloadOf s)))) (show w p [] (lockInto b core s)) (show other p [] (lockInto b core s))
+  lock-alike : (s : List ℕ) (right b : Bool) (p : Password)
+      → Matched w (right && (b && isForceErase (operation s))) (show w p [] (lockInto right b core s)) (show other p [] (lockInto right b core s))
   unfolding lockInto
-  lock-alike s b p = go (packetRight s) b
-    where
-      o : Operation
-      o = operation (payloadOf s)
+  lock-alike s true true p = operate-alike (operation s) p
+  lock-alike s true false p = show-alike p [] failed refl
+  lock-alike s false b p = show-alike p [] (said (withState core Tran) (token REJECTED)) refl
 
-      wrong : Turn
-      wrong = said (withState core Tran) (token REJECTED)
-
-      turn : Bool → Bool → Turn
-      turn right b = cond (not right) wrong (cond b (operate o core) failed)
-
-      go : (right b : Bool) → Matched w (right && (b && isForceErase o)) (show w p [] (turn right b)) (show other p [] (turn right b))
-      go true true = operate-alike o p
-      go true false = show-alike p [] failed refl
-      go false b = show-alike p [] wrong refl
-
-  block-alike : (s : List ℕ) (b : Bool) (p : Password) (o : Open) → shut o ≡ true
-      → Matched w (locking o && (packetRight s && (b && isForceErase (operation (payloadOf s))))) (show w p [] (blockInto o b core s)) (show other p [] (blockInto o b core s))
+  block-alike : (s : List ℕ) (right b : Bool) (p : Password) (o : Open) → shut o ≡ true
+      → Matched w (locking o && (right && (b && isForceErase (operation s)))) (show w p [] (blockInto o right b core s)) (show other p [] (blockInto o right b core s))
   unfolding blockInto
-  block-alike s b p Open.Nothing h = show-alike p [] (quiet core Keep) refl
-  block-alike s b p (Read x) h = absurd (false≢true h)
-  block-alike s b p (Write (Single a held)) h = absurd (false≢true h)
-  block-alike s b p (Write (Multiple a held)) h = absurd (false≢true h)
-  block-alike s b p (Write LockUnlock) h = lock-alike s b p
-  block-alike s b p (Busy x) h = show-alike p [] (quiet core Keep) refl
+  block-alike s right b p Open.Nothing h = show-alike p [] (quiet core Keep) refl
+  block-alike s right b p (Read x) h = show-alike p [] (quiet core Keep) refl
+  block-alike s right b p (Write (Single a held)) h = absurd (false≢true h)
+  block-alike s right b p (Write (Multiple a held)) h = absurd (false≢true h)
+  block-alike s right b p (Write LockUnlock) h = lock-alike s right b p
+  block-alike s right b p (Busy x) h = show-alike p [] (quiet core Keep) refl
+
+  nothing-erased : (b : Bool) {x y : Result} → Matched w false x y → Matched w (b && false) x y
+  nothing-erased true h = h
+  nothing-erased false h = h
+
+  entered-alike : shut (opened w) ≡ true → (i : Incoming) → Matched w (locking (opened w) && erasesBy w i) (entered w i) (entered other i)
+  unfolding entered
+  entered-alike h (payload right s) = block-alike s right (success w s) _ (opened w) h
+  entered-alike h stop = nothing-erased (locking (opened w)) (show-alike (w .card .password) [] (quiet (moved StopTransmission core) Keep) refl)
+  entered-alike h ignored = nothing-erased (locking (opened w)) (show-alike (w .card .password) [] (quiet core Keep) refl)
+
+  -- what is handed out is no memory
+  source-alike : (p : Password) (out : List ℕ) (x : Source) → sourceShut x ≡ true
+      → Matched w false (show w p out (led (core .bus .mode) (takeSource x core (w .memory)))) (show other p out (led (core .bus .mode) (takeSource x core m)))
+  unfolding takeSource
+  source-alike p out (Blocks multiple address held) h = absurd (false≢true h)
+  source-alike p out (WriteProtect address) h = show-alike p out (led (core .bus .mode) (single core (markBytes core address))) refl
+  source-alike p out SdStatus h = show-alike p out (led (core .bus .mode) (single core (replicate 64 0))) refl
+  source-alike p out WrittenBlocks h = show-alike p out (led (core .bus .mode) (single core (word32 (core .written)))) refl
+  source-alike p out Scr h = show-alike p out (led (core .bus .mode) (single core scrBytes)) refl
+  source-alike p out Csd h = show-alike p out (led (core .bus .mode) (single core (csdBytes (core .csd)))) refl
+  source-alike p out Cid h = show-alike p out (led (core .bus .mode) (single core (cidBytes (core .settings)))) refl
 
   take-alike : (p : Password) (out : List ℕ) (o : Open) → shut o ≡ true
-      → Matched w false (show w p out (takeFrom o core (w .memory))) (show other p out (takeFrom o core m))
+      → Matched w false (show w p out (led (core .bus .mode) (takeFrom o core (w .memory)))) (show other p out (led (core .bus .mode) (takeFrom o core m)))
   unfolding takeFrom
-  take-alike p out Open.Nothing h = show-alike p out (quiet core Keep) refl
-  take-alike p out (Read x) h = absurd (false≢true h)
-  take-alike p out (Write x) h = show-alike p out (quiet core Keep) refl
-  take-alike p out (Busy x) h = show-alike p out (quiet core Keep) refl
+  take-alike p out Open.Nothing h = show-alike p out (led (core .bus .mode) (quiet core Keep)) refl
+  take-alike p out (Read x) h = source-alike p out x h
+  take-alike p out (Write x) h = show-alike p out (led (core .bus .mode) (quiet core Keep)) refl
+  take-alike p out (Busy x) h = show-alike p out (led (core .bus .mode) (quiet core Keep)) refl
 
   over-still : (o : Open) → overFrom o core .effect ≡ Nothing
   unfolding overFrom
@@ -252,26 +285,24 @@ module _ (w : World) (m : List ℕ) (long : length (w .memory) ≡ length m) whe
       none-erased (powerRefusal w s p)
       (unless-alike false (powerRefusal w s p) (powerRefusal other s p) (same-refusal POWER-ROWS false false false false (not (permitted s p)) s) [] x y
       (record { answer = refl; out = refl; card = refl; memory = refl }))
-  step-alike locked h (commandFrame frame out) =
-      let t = receive core frame in
+  step-alike locked h (commandFrame frame low out) =
+      let t = receive core low frame in
       none-erased (frameRefusal w frame out)
       (unless-alike false (frameRefusal w frame out) (frameRefusal other frame out)
       (same-refusal FRAME-ROWS (not (eqb (length frame) FRAME)) bad (ltb (length out) ROOM) false false (core .settings)) out
       (show w (w .card .password) out t) (show other (w .card .password) out t)
-      (show-alike (w .card .password) out t (receive-quiet core locked h frame .effect)))
+      (show-alike (w .card .password) out t (receive-quiet core locked h low frame .effect)))
   step-alike locked h (blockIn s) =
       let o = opened w in
-      let p = passwordInto o (success w s) (w .card .password) s in
-      let t = blockInto o (success w s) core s in
-      unless-alike (locking o && (packetRight s && (success w s && isForceErase (operation (payloadOf s))))) (blockRefusal w s) (blockRefusal other s)
-      (same-refusal BLOCK-ROWS (not (eqb (length s) (blockSize core))) bad false (not (writing o)) false (core .settings)) []
-      (show w p [] t) (show other p [] t) (block-alike s (success w s) p o h)
+      unless-alike (locking o && erasesBy w (arrived w s)) (blockRefusal w s) (blockRefusal other s)
+      (same-refusal BLOCK-ROWS (otherBlock core s) bad false (not (writing o)) false (core .settings)) []
+      (entered w (arrived w s)) (entered other (arrived w s)) (entered-alike h (arrived w s))
   step-alike locked h (takeBlock out) =
       let o = opened w in
       none-erased (takeRefusal w out)
       (unless-alike false (takeRefusal w out) (takeRefusal other out)
       (same-refusal TAKE-ROWS false bad (ltb (length out) (blockRoom core)) (not (reading o)) false (core .settings)) out
-      (show w (w .card .password) out (takeFrom o core (w .memory))) (show other (w .card .password) out (takeFrom o core m)) (take-alike (w .card .password) out o h))
+      (show w (w .card .password) out (handed w)) (show other (w .card .password) out (handed other)) (take-alike (w .card .password) out o h))
   step-alike locked h busyOver =
       let t = overFrom (opened w) core in
       none-erased (overRefusal w)

@@ -1,42 +1,43 @@
 -- The messages of the card: in an R1 that a frame gets COM_CRC_ERROR is free, and its first byte says that it is one; blocks and their
 -- answers carry no status.
-use mathlib.Core.Path.{_≡_, refl}
-use mathlib.Core.Bool.{Bool, true, false, cond, not, _&&_}
-use mathlib.Core.List.{List, _∷_}
+use mathlib.Core.Path.{_≡_, refl, sym, ap, _∙_}
+use mathlib.Core.Bool.{Bool, true, false, not, _||_, true≢false, false≢true}
+use mathlib.Core.List.{List, [], _∷_}
 use mathlib.Core.Option.{some}
-use Prim.Native.Nat.{ℕ, _/_, _%_, _^_}
+use Prim.Native.Nat.{ℕ, _+_, _*_, _^_, _<_}
 use native.Mathlib.Omega.{arith}
 use lib.Dec.{eqb}
-use Rattle.crc.specs.Bits.{bits, number}
-use Rattle.wire_frame.specs.Command.{frameCheck}
-use Rattle.wire_frame.specs.declared.command.FrameCheck.{FrameCheck}
-use Rattle.wire_frame.specs.declared.command.FrameCheck.the-variants.{Good, Size, Start, Check}
-use Rattle.wire_packet.specs.Packet.{packetRight}
+use Rattle.crc.specs.Bits.{digit, bits, number}
+use Rattle.crc.proofs.Bits.{digit-lt}
 use Rattle.card.specs.declared.Source.{Source}
-use Rattle.card.specs.declared.Source.the-variants.{Blocks, WriteProtect, SdStatus as SdStatusBlock, WrittenBlocks, Scr}
+use Rattle.card.specs.declared.Source.the-variants.{Blocks, WriteProtect, SdStatus as SdStatusBlock, WrittenBlocks, Scr, Csd as CsdBlock, Cid as CidBlock}
 use Rattle.card.specs.declared.Sink.the-variants.{Single, Multiple, LockUnlock as LockBlock}
 use Rattle.card.specs.declared.State.{State}
 use Rattle.card.specs.declared.Open.{Open}
 use Rattle.card.specs.declared.Open.the-variants.{Nothing, Read, Write, Busy}
+use Rattle.card.specs.declared.Kept.{Kept}
 use Rattle.card.specs.declared.Core.{Core}
 use Rattle.card.specs.declared.command.Command.{Command}
-use Rattle.card.specs.declared.command.Command.the-variants.{GoIdleState, AllSendCid, SendRelativeAddr, SelectCard, DeselectCard, SendIfCond, SendCsd, SendCid, StopTransmission, SendStatus, AppCmd, GoInactiveState, SetBlocklen, ReadSingleBlock, ReadMultipleBlock, SendWriteProt, WriteBlock, WriteMultipleBlock, LockUnlock, SetWriteProt, ClrWriteProt, Erase, EraseWrBlkStart, EraseWrBlkEnd, SdStatus, SendNumWrBlocks, SendScr, SetWrBlkEraseCount, SetClrCardDetect, SdSendOpCond, Unknown}
+use Rattle.card.specs.declared.command.Command.the-variants.{GoIdleState, AllSendCid, SendRelativeAddr, SelectCard, DeselectCard, SendIfCond, SendCsd, SendCid, StopTransmission, SendStatus, AppCmd, GoInactiveState, SetBlocklen, ReadSingleBlock, ReadMultipleBlock, SendWriteProt, WriteBlock, WriteMultipleBlock, LockUnlock, SetWriteProt, ClrWriteProt, Erase, EraseWrBlkStart, EraseWrBlkEnd, SdStatus, SendNumWrBlocks, SendScr, SetWrBlkEraseCount, SetClrCardDetect, SdSendOpCond, ReadOcr, CrcOnOff, Unknown}
 use Rattle.card.specs.declared.done.Response as Response
 use Rattle.card.specs.declared.done.Response.{Response}
 use Rattle.card.specs.declared.done.Response.the-variants.{R1, R6, Cid, Csd, R3, R7}
 use Rattle.card.specs.declared.done.Done.{Done}
-use Rattle.card.specs.declared.done.Judged.{Judged}
 use Rattle.card.specs.Settings.{capacity, addressOf}
-use Rattle.card.specs.State.{number as numberOf, ina}
+use Rattle.card.specs.State.{number as numberOf, inSpi}
 use Rattle.card.specs.Protect.{whole, guarded}
 use Rattle.card.specs.Checks.{outside, crossing}
-use Rattle.card.specs.Table.{row, commandOf, own, misses, legal, accepts}
-use Rattle.card.specs.Execute.{settled, runAt, run}
-use Rattle.card.specs.Frame.{Message, silence, r1, r6, plain, block, token, finished, Turn, judge, messageOf, finish, showSd, byCheck, receive}
+use Rattle.card.specs.Table.{row}
+use Rattle.card.specs.Execute.{settled, runAt}
+use Rattle.card.specs.Frame.{Message, silence, r1, r6, spiR1, plain, block, token, finished, Turn, messageOf}
+use Rattle.card.specs.Spi.{r1Byte, behindR1}
+use Rattle.card.specs.Receive.{receive}
 use Rattle.card.specs.Data.{takeSource, takeFrom, writeInto, lockInto, blockInto, overFrom}
+use Rattle.card.specs.Step.{ledMessage}
 use Rattle.card.specs.History.{carrier}
 use Rattle.card.proofs.Words.{Free, status-free}
 use Rattle.card.proofs.Choices.{cond-either}
+use Rattle.card.proofs.Received.{doing, receive-elim}
 
 -- ---- data: no status
 
@@ -44,6 +45,7 @@ abbrev pub Stateless : Message → Type 0
 Stateless silence = Unit {0}
 Stateless (r1 index word) = ⊥
 Stateless (r6 rca word) = ⊥
+Stateless (spiR1 byte s) = ⊥
 Stateless (plain s) = Unit {0}
 Stateless (block payload) = Unit {0}
 Stateless (token n) = Unit {0}
@@ -61,6 +63,8 @@ source-bare (WriteProtect address) c memory = tt
 source-bare SdStatusBlock c memory = tt
 source-bare WrittenBlocks c memory = tt
 source-bare Scr c memory = tt
+source-bare CsdBlock c memory = tt
+source-bare CidBlock c memory = tt
 
 pub take-bare : (o : Open) (c : Core) (memory : List ℕ) → Bare (takeFrom o c memory)
 unfolding takeFrom
@@ -69,25 +73,38 @@ take-bare (Read s) c memory = source-bare s c memory
 take-bare (Write s) c memory = tt
 take-bare (Busy s) c memory = tt
 
-write-bare : (multiple held : Bool) (a : ℕ) (c : Core) (packet : List ℕ) → Bare (writeInto multiple a held c packet)
+write-bare : (multiple held right : Bool) (a : ℕ) (c : Core) (payload : List ℕ) → Bare (writeInto multiple a held right c payload)
 unfolding writeInto
-write-bare multiple held a c packet =
+write-bare multiple held right a c payload =
     cond-either Bare held tt
-    (cond-either Bare (not (packetRight packet)) tt
+    (cond-either Bare (not right) tt
     (cond-either Bare (outside (capacity (c .settings)) a) tt (cond-either Bare (guarded (whole (c .settings)) (c .marks) a) tt tt)))
 
-lock-bare : (success : Bool) (c : Core) (packet : List ℕ) → Bare (lockInto success c packet)
+lock-bare : (right success : Bool) (c : Core) (payload : List ℕ) → Bare (lockInto right success c payload)
 unfolding lockInto
-lock-bare success c packet = cond-either Bare (not (packetRight packet)) tt (cond-either Bare success tt tt)
+lock-bare right success c payload = cond-either Bare (not right) tt (cond-either Bare success tt tt)
 
-pub block-bare : (o : Open) (success : Bool) (c : Core) (packet : List ℕ) → Bare (blockInto o success c packet)
+pub block-bare : (o : Open) (right success : Bool) (c : Core) (payload : List ℕ) → Bare (blockInto o right success c payload)
 unfolding blockInto
-block-bare Nothing success c packet = tt
-block-bare (Read s) success c packet = tt
-block-bare (Write (Single a held)) success c packet = write-bare false held a c packet
-block-bare (Write (Multiple a held)) success c packet = write-bare true held a c packet
-block-bare (Write LockBlock) success c packet = lock-bare success c packet
-block-bare (Busy s) success c packet = tt
+block-bare Nothing right success c payload = tt
+block-bare (Read s) right success c payload = tt
+block-bare (Write (Single a held)) right success c payload = write-bare false held right a c payload
+block-bare (Write (Multiple a held)) right success c payload = write-bare true held right a c payload
+block-bare (Write LockBlock) right success c payload = lock-bare right success c payload
+block-bare (Busy s) right success c payload = tt
+
+-- a token before a block carries no status either
+pub led-stateless : (spi : Bool) (m : Message) → Stateless m → Stateless (ledMessage spi m)
+unfolding ledMessage
+led-stateless spi silence h = tt
+led-stateless spi (r1 index word) h = absurd h
+led-stateless spi (r6 rca word) h = absurd h
+led-stateless spi (spiR1 byte s) h = absurd h
+led-stateless spi (plain s) h = tt
+led-stateless true (block payload) h = tt
+led-stateless false (block payload) h = tt
+led-stateless spi (token n) h = tt
+led-stateless spi finished h = tt
 
 pub over-bare : (o : Open) (c : Core) → Bare (overFrom o c)
 unfolding overFrom
@@ -102,10 +119,19 @@ over-bare (Busy s) c = tt
 abbrev pub firstByte : ℕ → ℕ
 firstByte index = number (false ∷ (false ∷ bits 6 index))
 
+-- an R1 of SPI mode has COM_CRC_ERROR free, and nothing behind it
+pub record FreeR1 (byte : ℕ) (s : List ℕ) : Type 0 where
+  pub high : ℕ
+  pub low : ℕ
+  pub below : low < 8
+  pub parts : byte ≡ low + 16 * high
+  pub alone : s ≡ []
+
 abbrev pub Clean : Message → Type 0
 Clean silence = Unit {0}
 Clean (r1 index word) = Free word × (carrier (firstByte index) ≡ some 2)
 Clean (r6 rca word) = Unit {0}
+Clean (spiR1 byte s) = FreeR1 byte s
 Clean (plain s) = Unit {0}
 Clean (block payload) = Unit {0}
 Clean (token n) = Unit {0}
@@ -118,10 +144,6 @@ Says t = Clean (t .message)
 abbrev Told : Command → Type 0
 Told k = carrier (firstByte (row k .index)) ≡ some 2
 
-r7-silent : (b : Bool) (voltage pattern : ℕ) → cond b (R7 voltage pattern) Response.Nothing ≡ R1 → ⊥
-r7-silent true voltage pattern e = let z : _≡_ {A = ℕ} 0 1 = cc in omega arith
-r7-silent false voltage pattern e = let z : _≡_ {A = ℕ} 0 1 = cc in omega arith
-
 r1-told : (k : Command) (c : Core) (x a : ℕ) → runAt k c x a .response ≡ R1 → Told k
 unfolding runAt row carrier number bits
 r1-told GoIdleState c x a e = refl
@@ -129,7 +151,7 @@ r1-told AllSendCid c x a e = refl
 r1-told SendRelativeAddr c x a e = let z : _≡_ {A = ℕ} 0 1 = cc in absurd (omega arith)
 r1-told SelectCard c x a e = refl
 r1-told DeselectCard c x a e = refl
-r1-told SendIfCond c x a e = absurd (r7-silent (eqb (x / 2 ^ 8 % 2 ^ 4) 1) 1 (x % 2 ^ 8) e)
+r1-told SendIfCond c x a e = let z : _≡_ {A = ℕ} 0 1 = cc in absurd (omega arith)
 r1-told SendCsd c x a e = refl
 r1-told SendCid c x a e = refl
 r1-told StopTransmission c x a e = refl
@@ -154,6 +176,8 @@ r1-told SendScr c x a e = refl
 r1-told SetWrBlkEraseCount c x a e = refl
 r1-told SetClrCardDetect c x a e = refl
 r1-told SdSendOpCond c x a e = refl
+r1-told ReadOcr c x a e = refl
+r1-told CrcOnOff c x a e = refl
 r1-told Unknown c x a e = refl
 
 response-clean : (k : Command) (s : State) (d : Done) (r : Response) → (r ≡ R1 → Told k) → Clean (messageOf k (numberOf s) d r)
@@ -164,26 +188,71 @@ response-clean k s d R6 h = tt
 response-clean k s d Cid h = tt
 response-clean k s d Csd h = tt
 response-clean k s d (R3 ocr) h = tt
-response-clean k s d (R7 voltage pattern) h = tt
+response-clean k s d (R7 voltage pattern) h = cond-either Clean (eqb voltage 0) tt tt
 
-judge-clean : (c : Core) (index argument : ℕ) → Says (showSd c (judge c index argument))
-unfolding judge showSd
-judge-clean c index argument =
-    let k = commandOf (c .bus) index argument in
-    let d = settled k c in
-    let P : Judged → Type 0 = λ j. Says (showSd c j) in
-    cond-either P (accepts k (c .locked) && legal k (c .bus .state))
-    (cond-either P (misses (row k .rca) (own (c .bus) argument)) tt
-    (response-clean k (c .bus .state) (run k d argument) (run k d argument .response) (r1-told k d argument (addressOf (d .settings) argument))))
-    tt
+-- 0 alone has index 0, and has no response of its own
+nothing-behind : (k : Command) (c : Core) (x a : ℕ) → eqb (row k .index) 0 ≡ true → runAt k c x a .response ≡ Response.Nothing
+unfolding runAt row
+nothing-behind GoIdleState c x a e = refl
+nothing-behind AllSendCid c x a e = absurd (false≢true e)
+nothing-behind SendRelativeAddr c x a e = absurd (false≢true e)
+nothing-behind SelectCard c x a e = absurd (false≢true e)
+nothing-behind DeselectCard c x a e = absurd (false≢true e)
+nothing-behind SendIfCond c x a e = absurd (false≢true e)
+nothing-behind SendCsd c x a e = absurd (false≢true e)
+nothing-behind SendCid c x a e = absurd (false≢true e)
+nothing-behind StopTransmission c x a e = absurd (false≢true e)
+nothing-behind SendStatus c x a e = absurd (false≢true e)
+nothing-behind AppCmd c x a e = absurd (false≢true e)
+nothing-behind GoInactiveState c x a e = absurd (false≢true e)
+nothing-behind SetBlocklen c x a e = absurd (false≢true e)
+nothing-behind ReadSingleBlock c x a e = absurd (false≢true e)
+nothing-behind ReadMultipleBlock c x a e = absurd (false≢true e)
+nothing-behind SendWriteProt c x a e = absurd (false≢true e)
+nothing-behind WriteBlock c x a e = absurd (false≢true e)
+nothing-behind WriteMultipleBlock c x a e = absurd (false≢true e)
+nothing-behind LockUnlock c x a e = absurd (false≢true e)
+nothing-behind SetWriteProt c x a e = absurd (false≢true e)
+nothing-behind ClrWriteProt c x a e = absurd (false≢true e)
+nothing-behind Erase c x a e = absurd (false≢true e)
+nothing-behind EraseWrBlkStart c x a e = absurd (false≢true e)
+nothing-behind EraseWrBlkEnd c x a e = absurd (false≢true e)
+nothing-behind SdStatus c x a e = absurd (false≢true e)
+nothing-behind SendNumWrBlocks c x a e = absurd (false≢true e)
+nothing-behind SendScr c x a e = absurd (false≢true e)
+nothing-behind SetWrBlkEraseCount c x a e = absurd (false≢true e)
+nothing-behind SetClrCardDetect c x a e = absurd (false≢true e)
+nothing-behind SdSendOpCond c x a e = absurd (false≢true e)
+nothing-behind ReadOcr c x a e = absurd (false≢true e)
+nothing-behind CrcOnOff c x a e = absurd (false≢true e)
+nothing-behind Unknown c x a e = absurd (false≢true e)
 
-check-clean : (k : FrameCheck) (c : Core) → Says (byCheck k c)
-unfolding byCheck
-check-clean (Good index argument) c = judge-clean c index argument
-check-clean Size c = tt
-check-clean Start c = tt
-check-clean Check c = tt
+r1-free : (k : Kept) (isIdle : Bool) (s : List ℕ) → s ≡ [] → FreeR1 (r1Byte k isIdle) s
+unfolding r1Byte
+r1-free k isIdle s e = record {
+  high = digit (k .«out_of_range» || k .«block_len_error») * 2 ^ 2 + digit (k .«address_error») * 2 + digit (k .«erase_seq_error»);
+  low = digit (k .«illegal_command») * 2 ^ 2 + digit (k .«erase_reset») * 2 + digit isIdle;
+  below = omega (arith, digit-lt (k .«illegal_command»), digit-lt (k .«erase_reset»), digit-lt isIdle);
+  parts = omega arith;
+  alone = e;
+}
 
-pub receive-clean : (c : Core) (frame : List ℕ) → Says (receive c frame)
-unfolding receive
-receive-clean c frame = cond-either Says (eqb (numberOf (c .bus .state)) ina) tt (check-clean (frameCheck frame) c)
+-- SD mode
+pub receive-clean : (c : Core) (low : Bool) (frame : List ℕ) → inSpi (c .bus .mode) ≡ false → Says (receive c low frame)
+unfolding behindR1
+receive-clean c low frame =
+    receive-elim c (λ t. inSpi (c .bus .mode) ≡ false → Says t) (record {
+      still = λ sd. tt;
+      damaged = λ sd. tt;
+      elsewhere = λ sd. tt;
+      illegal = λ sd. tt;
+      runs = λ k x may sd.
+          let d = settled k c in
+          response-clean k (c .bus .state) (doing c k x) (doing c k x .response) (r1-told k d x (addressOf (d .settings) x));
+      choosing = λ k x may zero sd.
+          let d = settled k c in
+          r1-free _ _ _ (ap (behindR1 k _ _) (nothing-behind k d x (addressOf (d .settings) x) zero));
+      damagedSpi = λ spi sd. tt;
+      illegalSpi = λ spi sd. tt;
+      runsSpi = λ spi k x may sd. absurd (true≢false (sym spi ∙ sd));
+    }) low frame

@@ -8,15 +8,19 @@ use borrow.Author.Tests.{eqb-true}
 use lib.Dec.{eqb, leb}
 use Rattle.card.specs.declared.Settings.{Settings}
 use Rattle.card.specs.declared.State.{State}
-use Rattle.card.specs.declared.State.the-variants.{Idle, Ready, Ident, Stby, Tran, Prg, Dis, Ina}
+use Rattle.card.specs.declared.Source.{Source}
+use Rattle.card.specs.declared.Sink.{Sink}
+use Rattle.card.specs.declared.State.the-variants.{Idle, Ready, Ident, Stby, Tran, Data, Rcv, Prg, Dis, Ina}
+use Rattle.card.specs.declared.Bus.{Bus}
 use Rattle.card.specs.declared.Open.{Open}
 use Rattle.card.specs.declared.command.Command.{Command}
-use Rattle.card.specs.State.{idle, ready, ident, stby, tran, «data», rcv, prg, dis, ina, number, arrive, openOf, transferAddress}
-use Rattle.card.specs.Table.{Move, moves, has, lead, legal, after}
-use Rattle.card.specs.Soundness.{writtenMost, offWrite, badRca}
+use Rattle.card.specs.State.{idle, ready, ident, stby, tran, «data», rcv, prg, dis, ina, number, inSpi, numberIn, arrive, openOf, transferAddress}
+use Rattle.card.specs.Table.{Move, row, moves, has, lead, legal, after}
+use Rattle.card.specs.Soundness.{writtenMost, offWrite, badRca, badApp}
 use Rattle.card.specs.Locked.{shut}
 use Rattle.card.proofs.Choices.{cond-elim}
 use Rattle.card.proofs.Facts.{Transfer}
+use Rattle.card.proofs.Changes.{spi-rca}
 
 -- ---- what all moves of a row have, the move taken has
 
@@ -42,7 +46,7 @@ all-taken p (m ∷ ms) s e h =
 unfoldable pub keepsRca : ℕ → ℕ → Bool
 keepsRca k to = eqb to ina || (not (eqb k ina) && Bool·beq (leb stby k) (leb stby to))
 
-rca-kept : (k to rca : ℕ) → keepsRca k to ≡ true → badRca k rca ≡ false → badRca to rca ≡ false
+rca-kept : (k to rca : ℕ) → keepsRca k to ≡ true → badRca false k rca ≡ false → badRca false to rca ≡ false
 unfolding keepsRca badRca
 rca-kept k to rca e w = go (eqb to ina) (eqb k ina) (leb stby k) (leb stby to) e w
   where
@@ -55,9 +59,60 @@ rca-kept k to rca e w = go (eqb to ina) (eqb k ina) (leb stby k) (leb stby to) e
     go false false false true e w = absurd (false≢true e)
     go false false false false e w = w
 
+-- a move from a state that has an RCA
+unfoldable pub selects : ℕ → ℕ → Bool
+selects k to = not (eqb k ina) && leb stby k
+
+rca-found : (k to rca : ℕ) → selects k to ≡ true → badRca false k rca ≡ false → eqb rca 0 ≡ false
+unfolding selects badRca
+rca-found k to rca e w = go (eqb k ina) (leb stby k) e w
+  where
+    go : (b x : Bool) → (not b && x) ≡ true → cond b false (cond x (eqb rca 0) (not (eqb rca 0))) ≡ false → eqb rca 0 ≡ false
+    go true x e w = absurd (false≢true e)
+    go false true e w = w
+    go false false e w = absurd (false≢true e)
+
 -- a move from the state of a number
 unfoldable pub from : ℕ → ℕ → ℕ → Bool
 from n k to = eqb k n
+
+-- ---- the states from stby to dis: in SD mode the RCA is not zero, and the application mark may stand
+
+pub record Selected (s : State) : Type 0 where
+  pub rca : (spi : Bool) (n : ℕ) → badRca spi (number s) n ≡ cond spi false (eqb n 0)
+  pub app : (spi b : Bool) → badApp spi (number s) b ≡ false
+
+nowhere : (spi b : Bool) → cond spi false (b && false) ≡ false
+nowhere true b = refl
+nowhere false true = refl
+nowhere false false = refl
+
+either : (spi : Bool) (n : ℕ) → cond spi false (eqb n 0) ≡ cond spi false (eqb n 0)
+either spi n = refl
+
+pub stby-selected : Selected Stby
+unfolding badRca badApp
+stby-selected = record { rca = either; app = nowhere }
+
+pub tran-selected : Selected Tran
+unfolding badRca badApp
+tran-selected = record { rca = either; app = nowhere }
+
+pub data-selected : (s : Source) → Selected (Data s)
+unfolding badRca badApp
+data-selected s = record { rca = either; app = nowhere }
+
+pub rcv-selected : (s : Sink) → Selected (Rcv s)
+unfolding badRca badApp
+rcv-selected s = record { rca = either; app = nowhere }
+
+pub prg-selected : Selected Prg
+unfolding badRca badApp
+prg-selected = record { rca = either; app = nowhere }
+
+pub dis-selected : Selected Dis
+unfolding badRca badApp
+dis-selected = record { rca = either; app = nowhere }
 
 -- ---- landing: one law for the walk over the states
 
@@ -99,21 +154,47 @@ arrive-transfer {s} {n} k t h =
     arrive-elim (λ (x : State). Transfer s (openOf x) n) k t h (λ x e f. free-transfer (openOf x) f (h .count))
     (free-transfer (openOf Ina) (free refl refl (λ m. refl) refl) (h .count))
 
-arrive-rca : (k : ℕ) (t : State) (rca : ℕ) → badRca k rca ≡ false → badRca (number t) rca ≡ false → badRca (number (arrive k t)) rca ≡ false
+arrive-rca : (k : ℕ) (t : State) (rca : ℕ) → badRca false k rca ≡ false → badRca false (number t) rca ≡ false
+    → badRca false (number (arrive k t)) rca ≡ false
 unfolding badRca
 arrive-rca k t rca w h =
-    arrive-elim (λ (x : State). badRca (number x) rca ≡ false) k t h (λ x e f. subst (λ (m : ℕ). badRca m rca ≡ false) (sym e) w) refl
+    arrive-elim (λ (x : State). badRca false (number x) rca ≡ false) k t h (λ x e f. subst (λ (m : ℕ). badRca false m rca ≡ false) (sym e) w) refl
 
--- ---- a command of the table
+-- ---- a command of the table, in a mode; in SPI mode nothing is asked of the RCA
 
-module _ (cmd : Command) (s : State) (permitted : legal cmd s ≡ true) where
-  pub after-rca : (t : State) (rca : ℕ) → all keepsRca (moves cmd) ≡ true → badRca (number s) rca ≡ false → badRca (number t) rca ≡ false
-      → badRca (number (after cmd s t)) rca ≡ false
-  unfolding legal after
-  after-rca t rca a h ht =
+module _ (cmd : Command) (s : State) where
+  moved-rca : (spi : Bool) → has (moves spi cmd) (numberIn spi s) ≡ true → (t : State) (rca : ℕ) → all keepsRca (row cmd .sd) ≡ true
+      → badRca spi (number s) rca ≡ false → badRca spi (number t) rca ≡ false
+      → badRca spi (number (arrive (lead (moves spi cmd) (numberIn spi s)) t)) rca ≡ false
+  unfolding moves numberIn
+  moved-rca true permitted t rca a h ht = spi-rca _ rca
+  moved-rca false permitted t rca a h ht =
       let n = number s in
-      arrive-rca (lead (moves cmd) n) t rca (rca-kept n (lead (moves cmd) n) rca (all-taken keepsRca (moves cmd) n a permitted) h) ht
+      arrive-rca (lead (row cmd .sd) n) t rca (rca-kept n (lead (row cmd .sd) n) rca (all-taken keepsRca (row cmd .sd) n a permitted) h) ht
 
-  pub came-from : (n rca : ℕ) → all (from n) (moves cmd) ≡ true → badRca (number s) rca ≡ false → badRca n rca ≡ false
-  unfolding legal from
-  came-from n rca a h = rw (eqb-true (number s) n (all-taken (from n) (moves cmd) (number s) a permitted)) at h
+  -- where every state that it runs in has an RCA
+  found-rca : (spi : Bool) → has (moves spi cmd) (numberIn spi s) ≡ true → (rca : ℕ) → all selects (row cmd .sd) ≡ true
+      → badRca spi (number s) rca ≡ false → cond spi false (eqb rca 0) ≡ false
+  unfolding moves numberIn
+  found-rca true permitted rca a h = refl
+  found-rca false permitted rca a h = rca-found (number s) (lead (row cmd .sd) (number s)) rca (all-taken selects (row cmd .sd) (number s) a permitted) h
+
+module _ (cmd : Command) (b : Bus) (permitted : legal cmd b ≡ true) where
+  pub after-rca : (t : State) (rca : ℕ) → all keepsRca (row cmd .sd) ≡ true → badRca (inSpi (b .mode)) (number (b .state)) rca ≡ false
+      → badRca (inSpi (b .mode)) (number t) rca ≡ false → badRca (inSpi (b .mode)) (number (after cmd b t)) rca ≡ false
+  unfolding legal after
+  after-rca t rca a h ht = moved-rca cmd (b .state) (inSpi (b .mode)) permitted t rca a h ht
+
+  pub selected-rca : (rca : ℕ) → all selects (row cmd .sd) ≡ true → badRca (inSpi (b .mode)) (number (b .state)) rca ≡ false
+      → cond (inSpi (b .mode)) false (eqb rca 0) ≡ false
+  unfolding legal
+  selected-rca rca a h = found-rca cmd (b .state) (inSpi (b .mode)) permitted rca a h
+
+  -- SD mode: the state that it runs in
+  pub came-from : (n rca : ℕ) → inSpi (b .mode) ≡ false → all (from n) (row cmd .sd) ≡ true → badRca (inSpi (b .mode)) (number (b .state)) rca ≡ false
+      → badRca false n rca ≡ false
+  unfolding legal from moves numberIn
+  came-from n rca e a h =
+      let here : has (row cmd .sd) (number (b .state)) ≡ true = rw e at permitted in
+      let bad : badRca false (number (b .state)) rca ≡ false = rw e at h in
+      rw (eqb-true (number (b .state)) n (all-taken (from n) (row cmd .sd) (number (b .state)) a here)) at bad

@@ -1,5 +1,5 @@
 -- Commands that move by the table: plain moves, reads, writes and protection marks.
-use mathlib.Core.Path.{_≡_, refl}
+use mathlib.Core.Path.{_≡_, refl, _∙_}
 use mathlib.Core.Bool.{Bool, true, false, not}
 use mathlib.Core.List.{[], _∷_}
 use Prim.Native.Nat.{ℕ, _%_, _≤_, _<_}
@@ -17,9 +17,9 @@ use Rattle.card.specs.declared.done.Response.{Response}
 use Rattle.card.specs.declared.done.Response.the-variants.{R1}
 use Rattle.card.specs.Settings.{BLOCK, capacity}
 use Rattle.card.specs.Record.{withWritten}
-use Rattle.card.specs.State.{number, tran, openOf, sourceAddress, sink}
+use Rattle.card.specs.State.{number, inSpi, openOf, sourceAddress, sink}
 use Rattle.card.specs.Status.{BLOCK-LEN-ERROR, OUT-OF-RANGE, ADDRESS-ERROR, WP-VIOLATION}
-use Rattle.card.specs.Table.{moves, lead, legal, after}
+use Rattle.card.specs.Table.{row, legal, after}
 use Rattle.card.specs.Protect.{groupOf, whole, guarded}
 use Rattle.card.specs.Checks.{_sets_, outside, crossing, offBlock, addressChecks, readChecks, writeChecks}
 use Rattle.card.specs.Execute.{ran, moved, opening, checked, readBlocks, writeBlocks, setMark}
@@ -28,48 +28,45 @@ use Rattle.card.proofs.Choices.{cond-elim}
 use Rattle.card.proofs.Facts.{Transfer, Sturdy}
 use Rattle.card.proofs.Changes.{stand, data-transfer, rcv-transfer, lock-transfer}
 use Rattle.card.proofs.Marks.{group-in}
-use Rattle.card.proofs.Moves.{all, keepsRca, from, arrive-transfer, after-rca, came-from}
+use Rattle.card.proofs.Moves.{all, keepsRca, selects, Selected, data-selected, rcv-selected, arrive-transfer, after-rca, selected-rca}
 use Rattle.card.proofs.Started.{Right, right, passed, checked-right, address-in}
 
 module _ (c : Core) (f : Sturdy c) where
-  module _ (cmd : Command) (permitted : legal cmd (c .bus .state) ≡ true) where
-    opened-sturdy : (t : State) (n : ℕ) → all keepsRca (moves cmd) ≡ true → Transfer (c .settings) (openOf t) n
-        → badRca (number t) (c .bus .rca) ≡ false → Sturdy (withWritten (opening cmd c t) n)
+  module _ (cmd : Command) (permitted : legal cmd (c .bus) ≡ true) where
+    opened-sturdy : (t : State) (n : ℕ) → all keepsRca (row cmd .sd) ≡ true → Transfer (c .settings) (openOf t) n
+        → badRca (inSpi (c .bus .mode)) (number t) (c .bus .rca) ≡ false → Sturdy (withWritten (opening cmd c t) n)
     unfolding after
     opened-sturdy t n k h r =
-        let s = c .bus .state in
-        stand c f (after cmd s t) (c .bus .rca) n (arrive-transfer (lead (moves cmd) (number s)) t h)
-        (after-rca cmd s permitted t (c .bus .rca) k (f .rca) r)
+        stand c f (after cmd (c .bus) t) (c .bus .rca) n (arrive-transfer _ t h)
+        (after-rca cmd (c .bus) permitted t (c .bus .rca) k (f .rca) r)
 
-    pub moved-sturdy : all keepsRca (moves cmd) ≡ true → Sturdy (moved cmd c)
+    pub moved-sturdy : all keepsRca (row cmd .sd) ≡ true → Sturdy (moved cmd c)
     moved-sturdy k = opened-sturdy (c .bus .state) (c .written) k (f .transfer) (f .rca)
 
-    pub moved-right : (r : Response) → all keepsRca (moves cmd) ≡ true → Right c (ran (moved cmd c) r)
+    pub moved-right : (r : Response) → all keepsRca (row cmd .sd) ≡ true → Right c (ran (moved cmd c) r)
     moved-right r k = right (moved-sturdy k) refl refl
 
-    -- a command that runs in tran alone finds an RCA
-    found-rca : all (from tran) (moves cmd) ≡ true → eqb (c .bus .rca) 0 ≡ false
-    unfolding badRca
-    found-rca t = came-from cmd (c .bus .state) permitted tran (c .bus .rca) t (f .rca)
+    -- a command that runs from stby on finds an RCA, in SD mode
+    found-rca : (to : State) → Selected to → all selects (row cmd .sd) ≡ true → badRca (inSpi (c .bus .mode)) (number to) (c .bus .rca) ≡ false
+    found-rca to there t =
+        there .rca (inSpi (c .bus .mode)) (c .bus .rca) ∙ selected-rca cmd (c .bus) permitted (c .bus .rca) t (f .rca)
 
-    pub data-right : (src : Source) → all keepsRca (moves cmd) ≡ true → all (from tran) (moves cmd) ≡ true
-        → sourceAddress src ≤ capacity (c .settings) → Right c (ran (opening cmd c (Data src)) R1)
-    unfolding badRca
-    data-right src k t h =
-        right (opened-sturdy (Data src) (c .written) k (data-transfer (c .settings) src (c .written) h (f .transfer .count)) (found-rca t)) refl refl
+    pub data-right : (src : Source) → all keepsRca (row cmd .sd) ≡ true → all selects (row cmd .sd) ≡ true
+        → sourceAddress src ≤ capacity (c .settings) → (r : Response) → Right c (ran (opening cmd c (Data src)) r)
+    data-right src k t h r =
+        right (opened-sturdy (Data src) (c .written) k (data-transfer (c .settings) src (c .written) h (f .transfer .count)) (found-rca (Data src) (data-selected src) t)) refl refl
 
-    pub read-right : (multiple : Bool) (a : ℕ) → all keepsRca (moves cmd) ≡ true → all (from tran) (moves cmd) ≡ true
+    pub read-right : (multiple : Bool) (a : ℕ) → all keepsRca (row cmd .sd) ≡ true → all selects (row cmd .sd) ≡ true
         → Right c (readBlocks cmd c multiple a)
     read-right multiple a k t =
         let top = capacity (c .settings) in
         checked-right c (readChecks top (c .length) a) _ f
         (λ e.
         data-right (Blocks multiple a false) k t
-        (let h : a < top = address-in top a (crossing (c .length) a sets ADDRESS-ERROR ∷ []) e in omega arith))
+        (let h : a < top = address-in top a (crossing (c .length) a sets ADDRESS-ERROR ∷ []) e in omega arith) R1)
 
-    pub rcv-right : (multiple : Bool) (a : ℕ) → all keepsRca (moves cmd) ≡ true → all (from tran) (moves cmd) ≡ true
+    pub rcv-right : (multiple : Bool) (a : ℕ) → all keepsRca (row cmd .sd) ≡ true → all selects (row cmd .sd) ≡ true
         → Right c (writeBlocks cmd c multiple a)
-    unfolding badRca
     rcv-right multiple a k t =
         let top = capacity (c .settings) in
         let wp = guarded (whole (c .settings)) (c .marks) a in
@@ -84,15 +81,15 @@ module _ (c : Core) (f : Sturdy c) where
         let on : a % BLOCK ≡ 0 = eqb-true (a % BLOCK) 0 (not-false (eqb (a % BLOCK) 0) (r .0)) in
         let below : a < top = leb-false top a (q .0) in
         right
-        (opened-sturdy (Rcv (sink multiple a false)) 0 k (rcv-transfer (c .settings) multiple false a 0 (omega arith) on (omega arith)) (found-rca t))
+        (opened-sturdy (Rcv (sink multiple a false)) 0 k (rcv-transfer (c .settings) multiple false a 0 (omega arith) on (omega arith))
+        (found-rca (Rcv (sink multiple a false)) (rcv-selected (sink multiple a false)) t))
         refl refl)
 
-    pub lock-right : all keepsRca (moves cmd) ≡ true → all (from tran) (moves cmd) ≡ true → Right c (ran (opening cmd c (Rcv LockUnlock)) R1)
-    unfolding badRca
+    pub lock-right : all keepsRca (row cmd .sd) ≡ true → all selects (row cmd .sd) ≡ true → Right c (ran (opening cmd c (Rcv LockUnlock)) R1)
     lock-right k t =
-        right (opened-sturdy (Rcv LockUnlock) (c .written) k (lock-transfer (c .settings) (c .written) (f .transfer .count)) (found-rca t)) refl refl
+        right (opened-sturdy (Rcv LockUnlock) (c .written) k (lock-transfer (c .settings) (c .written) (f .transfer .count)) (found-rca (Rcv LockUnlock) (rcv-selected LockUnlock) t)) refl refl
 
-    pub marks-right : (value : Bool) (a : ℕ) → all keepsRca (moves cmd) ≡ true → Right c (setMark cmd c value a)
+    pub marks-right : (value : Bool) (a : ℕ) → all keepsRca (row cmd .sd) ≡ true → Right c (setMark cmd c value a)
     marks-right value a k =
         let top = capacity (c .settings) in
         checked-right c (addressChecks top a) _ f

@@ -19,11 +19,7 @@ use Rattle.card.specs.declared.lock.Operation.the-variants.{ForceErase, 
 use Rattle.card.specs.Settings.{PASSWORD}
 use Rattle.card.specs.Soundness.{badPassword}
 use Rattle.card.specs.Lock.{isSet, operation, passwordData, complete, begins, replaces, succeeds, changed}
-use Rattle.card.specs.Status.{LOCK-UNLOCK-FAILED}
-use Rattle.card.specs.Record.{withState}
-use Rattle.card.specs.Execute.{raise}
-use Rattle.card.specs.Frame.{token}
-use Rattle.card.specs.Data.{said, acted, operate, lockInto, blockInto, passwordInto, ACCEPTED, REJECTED}
+use Rattle.card.specs.Data.{acted, lockInto, blockInto, passwordInto}
 use Rattle.card.proofs.Choices.{neither, nor}
 use Rattle.card.proofs.Locked.{write-held}
 
@@ -73,34 +69,25 @@ module _ (c : Core) (p : Password) (old : Fit (c .locked) (p .length)) where
       record { high = omega (arith, n, more, most); set = λ q. omega (arith, n, more, most) }
   operate-fits Invalid permanent s e = absurd (false≢true e)
 
-  lock-fits : (packet : List ℕ) (success : Bool)
-      → (success ≡ true → Fit (acted (operation (payloadOf packet)) c .locked) (changed (operation (payloadOf packet)) p (payloadOf packet) .length))
-      → Fit (lockInto success c packet .core .locked) (passwordInto (Write LockUnlock) success p packet .length)
+  lock-fits : (right success : Bool) (s : List ℕ)
+      → (success ≡ true → Fit (acted (operation s) c .locked) (changed (operation s) p s .length))
+      → Fit (lockInto right success c s .core .locked) (passwordInto (Write LockUnlock) right success p s .length)
   unfolding lockInto passwordInto
-  lock-fits packet success h = go (packetRight packet) success h
-    where
-      o : Operation
-      o = operation (payloadOf packet)
+  lock-fits true true s h = h refl
+  lock-fits true false s h = old
+  lock-fits false success s h = old
 
-      go : (right b : Bool) → (b ≡ true → Fit (acted o c .locked) (changed o p (payloadOf packet) .length))
-          → Fit (cond (not right) (said (withState c Tran) (token REJECTED)) (cond b (operate o c) (said (withState (raise c LOCK-UNLOCK-FAILED) Prg) (token ACCEPTED))) .core .locked)
-          (cond (right && b) (changed o p (payloadOf packet)) p .length)
-      go true true h = h refl
-      go true false h = old
-      go false b h = old
+-- ---- a payload into whatever is open
 
--- ---- a block into whatever is open
-
-pub block-fits : (c : Core) (p : Password) (packet : List ℕ) (o : Open) → badPassword (c .locked) (p .length) ≡ false
-    → badPassword (blockInto o (succeeds (operation (payloadOf packet)) (c .locked) (c .settings .permanent) p (payloadOf packet)) c packet .core .locked)
-    (passwordInto o (succeeds (operation (payloadOf packet)) (c .locked) (c .settings .permanent) p (payloadOf packet)) p packet .length) ≡ false
+pub block-fits : (c : Core) (p : Password) (right : Bool) (s : List ℕ) (o : Open) → badPassword (c .locked) (p .length) ≡ false
+    → badPassword (blockInto o right (succeeds (operation s) (c .locked) (c .settings .permanent) p s) c s .core .locked)
+    (passwordInto o right (succeeds (operation s) (c .locked) (c .settings .permanent) p s) p s .length) ≡ false
 unfolding blockInto passwordInto
-block-fits c p packet Nothing e = e
-block-fits c p packet (Read s) e = e
-block-fits c p packet (Write (Single a held)) e = ap (λ (l : Bool). badPassword l (p .length)) (write-held c false a held packet) ∙ e
-block-fits c p packet (Write (Multiple a held)) e = ap (λ (l : Bool). badPassword l (p .length)) (write-held c true a held packet) ∙ e
-block-fits c p packet (Write LockUnlock) e =
-    let s = payloadOf packet in
+block-fits c p right s Nothing e = e
+block-fits c p right s (Read source) e = e
+block-fits c p right s (Write (Single a held)) e = ap (λ (l : Bool). badPassword l (p .length)) (write-held c false a held right s) ∙ e
+block-fits c p right s (Write (Multiple a held)) e = ap (λ (l : Bool). badPassword l (p .length)) (write-held c true a held right s) ∙ e
+block-fits c p right s (Write LockUnlock) e =
     let f = fit (c .locked) (p .length) e in
-    fits-in _ _ (lock-fits c p f packet _ (operate-fits c p f (operation s) (c .settings .permanent) s))
-block-fits c p packet (Busy s) e = e
+    fits-in _ _ (lock-fits c p f right _ s (operate-fits c p f (operation s) (c .settings .permanent) s))
+block-fits c p right s (Busy next) e = e

@@ -1,6 +1,6 @@
 -- The registers on the wire: what the card encodes goes through R2 and comes back as the fields of the record.
 use mathlib.Core.Path.{_≡_, refl, ap, _∙_}
-use mathlib.Core.Bool.{true, false, not, _&&_, and-eq-true-iff, false≢true}
+use mathlib.Core.Bool.{Bool, true, false, not, _&&_, and-eq-true-iff, false≢true}
 use mathlib.Core.List.{List, [], _∷_}
 use mathlib.Core.Option.{none}
 use Prim.Native.Nat.{ℕ, suc, _≤_}
@@ -29,6 +29,7 @@ use Rattle.reg_size.specs.declared.SizePair.{SizePair}
 use Rattle.reg_size.specs.declared.SizePair.the-variants.{Pair, NoPair}
 use Rattle.reg_size.proofs.SizeLaws.{size-pair-right}
 use Rattle.card.specs.declared.Settings.{Settings}
+use Rattle.card.specs.declared.Mode.the-variants.{Sd}
 use Rattle.card.specs.declared.State.{State}
 use Rattle.card.specs.declared.State.the-variants.{Ready, Stby}
 use Rattle.card.specs.declared.Core.{Core}
@@ -36,11 +37,12 @@ use Rattle.card.specs.declared.command.Command.{Command}
 use Rattle.card.specs.declared.command.Command.the-variants.{AllSendCid, SendCsd, SendCid, Unknown}
 use Rattle.card.specs.Settings.{LEAST, MOST, POLLS, isPair, pairSize, pairMult, allowed, csdOf, cidBytes, csdBytes}
 use Rattle.card.specs.Soundness.{equal, unsound}
-use Rattle.card.specs.State.{number, ina}
+use Rattle.card.specs.State.{number, ina, numberIn}
 use Rattle.card.specs.Status.{ERASE-RESET}
-use Rattle.card.specs.Table.{row, commands, fits as fitsRow, find, commandOf, own, misses, has, legal, accepts}
+use Rattle.card.specs.Table.{row, commands, fits as fitsRow, find, commandOf, own, misses, has, moves, legal, accepts}
 use Rattle.card.specs.Execute.{raise, dropErase, pending, settled, runAt, run}
-use Rattle.card.specs.Frame.{plain, judge, messageOf, showSd, byCheck, receive}
+use Rattle.card.specs.Frame.{plain, judge, messageOf}
+use Rattle.card.specs.Receive.{shownSd, showSd, byCheck, receiveSd, receive}
 use Rattle.card.specs.Step.{World, commandFrame, wire, replyOf, show, applies, frameRefusal, framed, step}
 use Rattle.card.specs.Registers.{readRegister, Reads, ReadsRegisters}
 use Rattle.card.proofs.Choices.{cond-either, neither, spared}
@@ -60,10 +62,10 @@ module _ (f : Format) (trip : RoundTrip f) (vs : List ℕ) (fit : fits (f .slots
         ∙ back
 
     -- a call that is not refused, and answers with that register
-    register-sent : (w : World) (frame out : List ℕ) → frameRefusal w frame out ≡ none
-        → receive (w .card .core) frame .message ≡ plain (r2Bytes (image f vs)) → Reads f vs (step w (commandFrame frame out))
+    register-sent : (w : World) (frame : List ℕ) (low : Bool) (out : List ℕ) → frameRefusal w frame out ≡ none
+        → receive (w .card .core) low frame .message ≡ plain (r2Bytes (image f vs)) → Reads f vs (step w (commandFrame frame low out))
     unfolding step framed show wire replyOf
-    register-sent w frame out passed says =
+    register-sent w frame low out passed says =
         let n : length (r2Bytes (image f vs)) ≡ 17 = ap suc (length-image f vs ∙ size) in
         record { answer = rw (passed, says, n); register = rw (passed, says, take-at (r2Bytes (image f vs)) _ 17 n) register-read }
 
@@ -125,22 +127,22 @@ cidR2 c = r2Bytes (cidBytes (c .settings))
 abbrev csdR2 : Core → List ℕ
 csdR2 c = r2Bytes (csdBytes (c .csd))
 
-module _ (w : World) (frame out : List ℕ) (passed : frameRefusal w frame out ≡ none) where
+module _ (w : World) (frame : List ℕ) (low : Bool) (out : List ℕ) (passed : frameRefusal w frame out ≡ none) where
   fixed : Fixed (w .card .core .settings) (w .card .core .csd)
   unfolding applies
   fixed =
       let two = neither (unsound (w .card .core)) _ (spared 2 (3 ∷ 4 ∷ []) _ (spared 1 (2 ∷ 3 ∷ 4 ∷ []) _ passed .1) .0) in
       facts-sound (w .card .core) (two .0) .0 .fixed
 
-  cid-sent : receive (w .card .core) frame .message ≡ plain (cidR2 (w .card .core))
-      → Reads cid (cidValues (w .card .core .settings .cid)) (step w (commandFrame frame out))
-  cid-sent = register-sent cid cid-round-trip _ (cid-fits (w .card .core .settings) (fixed .settings)) refl (cid-shape _) w frame out passed
+  cid-sent : receive (w .card .core) low frame .message ≡ plain (cidR2 (w .card .core))
+      → Reads cid (cidValues (w .card .core .settings .cid)) (step w (commandFrame frame low out))
+  cid-sent = register-sent cid cid-round-trip _ (cid-fits (w .card .core .settings) (fixed .settings)) refl (cid-shape _) w frame low out passed
 
-  csd-sent : receive (w .card .core) frame .message ≡ plain (csdR2 (w .card .core))
-      → Reads csd (csdValues (w .card .core .csd)) (step w (commandFrame frame out))
+  csd-sent : receive (w .card .core) low frame .message ≡ plain (csdR2 (w .card .core))
+      → Reads csd (csdValues (w .card .core .csd)) (step w (commandFrame frame low out))
   csd-sent =
       let same : csdValues (w .card .core .csd) ≡ csdValues (csdOf (w .card .core .settings)) = equal-eq _ _ (fixed .csd) in
-      register-sent csd csd-round-trip _ (rw same (csd-fits (w .card .core .settings))) refl (csd-shape _) w frame out passed
+      register-sent csd csd-round-trip _ (rw same (csd-fits (w .card .core .settings))) refl (csd-shape _) w frame low out passed
 
 -- ---- the command
 
@@ -151,7 +153,8 @@ module _
     (marked : find commands true (row k .index) (own (c .bus) argument) k ≡ k)
     (awake : eqb (number s) ina ≡ false)
     (accepted : accepts k (c .locked) ≡ true)
-    (permitted : legal k s ≡ true)
+    (permitted : has (row k .sd) (number s) ≡ true)
+    (another : eqb (row k .index) 0 ≡ false)
     (says : (d : Core) → messageOf k (number s) (run k d argument) (run k d argument .response) ≡ plain (bytes d))
     (kept : bytes (dropErase (raise c ERASE-RESET)) ≡ bytes c)
   where
@@ -165,25 +168,31 @@ module _
         let P : Core → Type 0 = λ d. bytes d ≡ bytes c in
         cond-either P (row k .keepsErase) refl (cond-either P (pending c) kept refl)
 
-    answers : c .bus .state ≡ s → misses (row k .rca) (own (c .bus) argument) ≡ false → (frame : List ℕ)
-        → frameCheck frame ≡ Good (row k .index) argument → receive c frame .message ≡ plain (bytes c)
-    unfolding receive byCheck judge showSd
-    answers state mine frame check = simp (state, awake, check, found, accepted, permitted, mine, says, settles)
+    answers : c .bus .mode ≡ Sd → c .bus .state ≡ s → misses (row k .rca) (own (c .bus) argument) ≡ false → (frame : List ℕ) (low : Bool)
+        → frameCheck frame ≡ Good (row k .index) argument → receive c low frame .message ≡ plain (bytes c)
+    unfolding receive receiveSd byCheck judge showSd shownSd legal moves numberIn
+    answers mode state mine frame low check =
+        let chip : (low && eqb (row k .index) 0) ≡ false = rw another (never low) in
+        simp (mode, state, awake, check, found, accepted, permitted, mine, chip, says, settles)
+      where
+        never : (b : Bool) → (b && false) ≡ false
+        never true = refl
+        never false = refl
 
 -- ---- the claim
 
 pub reads-registers : ReadsRegisters
 unfolding row fitsRow find has legal accepts runAt messageOf
-reads-registers w argument frame out =
+reads-registers w argument frame low out =
     let c = w .card .core in
     record {
       allSendCid =
-          λ state h. cid-sent w frame out (h .passed)
-          (answers c argument AllSendCid Ready cidR2 refl refl refl refl refl (λ d. refl) refl state refl frame (h .check));
+          λ state h. cid-sent w frame low out (h .passed)
+          (answers c argument AllSendCid Ready cidR2 refl refl refl refl refl refl (λ d. refl) refl (h .mode) state refl frame low (h .check));
       sendCid =
-          λ state mine h. cid-sent w frame out (h .passed)
-          (answers c argument SendCid Stby cidR2 refl refl refl refl refl (λ d. refl) refl state (ap not mine) frame (h .check));
+          λ state mine h. cid-sent w frame low out (h .passed)
+          (answers c argument SendCid Stby cidR2 refl refl refl refl refl refl (λ d. refl) refl (h .mode) state (ap not mine) frame low (h .check));
       sendCsd =
-          λ state mine h. csd-sent w frame out (h .passed)
-          (answers c argument SendCsd Stby csdR2 refl refl refl refl refl (λ d. refl) refl state (ap not mine) frame (h .check));
+          λ state mine h. csd-sent w frame low out (h .passed)
+          (answers c argument SendCsd Stby csdR2 refl refl refl refl refl refl (λ d. refl) refl (h .mode) state (ap not mine) frame low (h .check));
     }

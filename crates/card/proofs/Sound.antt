@@ -16,21 +16,28 @@ use Rattle.card.specs.Settings.{BLOCK, GROUP, PASSWORD, capacity, groups
 use Rattle.card.specs.Record.{withMarks}
 use Rattle.card.specs.Protect.{whole}
 use Rattle.card.specs.Effects.{stored}
-use Rattle.card.specs.Frame.{Turn, receive}
+use Rattle.wire_packet.specs.Packet.{CHECK}
+use Rattle.card.specs.declared.command.Command.the-variants.{StopTransmission}
+use Rattle.card.specs.declared.done.Flag.the-variants.{Keep}
+use Rattle.card.specs.State.{inSpi}
+use Rattle.card.specs.Execute.{moved}
+use Rattle.card.specs.Frame.{Turn, quiet}
+use Rattle.card.specs.Receive.{receive}
 use Rattle.card.specs.Lock.{content}
-use Rattle.card.specs.Data.{takeFrom, blockInto, passwordInto, overFrom}
+use Rattle.card.specs.Data.{blockInto, passwordInto, overFrom}
 use Rattle.card.specs.Soundness.{badApp, markedFrom, badPassword}
-use Rattle.card.specs.Step.{powerUp, commandFrame, blockIn, takeBlock, busyOver, World, world, Result, over, after, show, applies, fresh, start, blockSize, opened, success, permitted, powerRefusal, frameRefusal, blockRefusal, takeRefusal, overRefusal, poweredUp, framed, given, taken, overed, step}
+use Rattle.card.specs.Step.{powerUp, commandFrame, blockIn, takeBlock, busyOver, World, world, Result, over, after, show, applies, fresh, start, packetSize, opened, Incoming, payload, stop, ignored, success, entered, arrived, handed, permitted, powerRefusal, frameRefusal, blockRefusal, takeRefusal, overRefusal, poweredUp, framed, given, taken, overed, step}
 use Rattle.card.specs.History.{Sound, KeepsSound, StartsSound}
 use Rattle.card.proofs.Choices.{unless-keeps, spared}
 use Rattle.card.proofs.Facts.{Marked, Facts, equal-refl, facts-sound, sound-facts}
 use Rattle.card.proofs.Changes.{remark, reset-sturdy}
 use Rattle.card.proofs.Extent.{length-affected, marked-affected}
-use Rattle.card.proofs.Frames.{Lasting, receive-lasting}
+use Rattle.card.proofs.Incoming.{incoming-elim}
+use Rattle.card.proofs.Frames.{Lasting, lasting, receive-lasting}
 use Rattle.card.proofs.Marks.{none-marked}
 use Rattle.card.proofs.Locked.{receive-held, take-held, over-held}
 use Rattle.card.proofs.Passwords.{Fit, fits-in, block-fits}
-use Rattle.card.proofs.Transfers.{take-lasting, block-lasting, over-lasting}
+use Rattle.card.proofs.Transfers.{take-lasting, block-lasting, stop-lasting, over-lasting}
 
 -- ---- a power-up
 
@@ -99,31 +106,44 @@ module _ (w : World) (s : Sound w) where
       let six = spared 6 [] _ (three .1) in
       start-sound settings p (w .memory) (not-false (permitted settings p) (six .0)) (equal-spared (length (w .memory)) (capacity settings) (three .0)))
 
-  framed-sound : (frame out : List ℕ) → Sound (framed w frame out .world)
+  framed-sound : (frame : List ℕ) (low : Bool) (out : List ℕ) → Sound (framed w frame low out .world)
   unfolding framed
-  framed-sound frame out =
-      let t = receive (w .card .core) frame in
+  framed-sound frame low out =
+      let t = receive (w .card .core) low frame in
       unless-keeps Good (frameRefusal w frame out) w out {x = show w (w .card .password) out t} (λ k. s)
-      (λ e. show-sound (w .card .password) out t (receive-lasting (w .card .core) frame core-facts) (held-sound (receive-held (w .card .core) frame)))
+      (λ e. show-sound (w .card .password) out t (receive-lasting (w .card .core) core-facts low frame) (held-sound (receive-held (w .card .core) low frame)))
 
-  given-sound : (packet : List ℕ) → Sound (given w packet .world)
-  unfolding given applies
-  given-sound packet =
+  entered-payload : (right : Bool) (p : List ℕ) → length p + CHECK ≡ packetSize (w .card .core) → Sound (entered w (payload right p) .world)
+  unfolding entered
+  entered-payload right p size =
       let c = w .card .core in
-      let t = blockInto (opened w) (success w packet) c packet in
-      let p = passwordInto (opened w) (success w packet) (w .card .password) packet in
-      unless-keeps Good (blockRefusal w packet) w [] {x = show w p [] t} (λ k. s)
+      show-sound (passwordInto (opened w) right (success w p) (w .card .password) p) [] (blockInto (opened w) right (success w p) c p)
+      (block-lasting c core-facts right (success w p) p size) (block-fits c (w .card .password) right p (opened w) (s .password))
+
+  entered-stop : inSpi (w .card .core .bus .mode) ≡ true → Sound (entered w stop .world)
+  unfolding entered
+  entered-stop spi =
+      show-sound (w .card .password) [] (quiet (moved StopTransmission (w .card .core)) Keep) (stop-lasting (w .card .core) core-facts spi) (s .password)
+
+  entered-ignored : Sound (entered w ignored .world)
+  unfolding entered
+  entered-ignored = show-sound (w .card .password) [] (quiet (w .card .core) Keep) (lasting core-facts refl) (s .password)
+
+  given-sound : (block : List ℕ) → Sound (given w block .world)
+  unfolding given applies
+  given-sound block =
+      unless-keeps Good (blockRefusal w block) w [] {x = entered w (arrived w block)} (λ k. s)
       (λ e.
       let one = spared 1 (3 ∷ 5 ∷ []) _ (spared 2 (1 ∷ 3 ∷ 5 ∷ []) _ e .1) in
-      show-sound p [] t (block-lasting c core-facts (success w packet) packet (equal-spared (length packet) (blockSize c) (one .0)))
-      (block-fits c (w .card .password) packet (opened w) (s .password)))
+      incoming-elim (w .card .core) block (λ i. Sound (entered w i .world)) (one .0) entered-payload entered-stop entered-ignored)
 
   taken-sound : (out : List ℕ) → Sound (taken w out .world)
   unfolding taken
   taken-sound out =
-      let t = takeFrom (opened w) (w .card .core) (w .memory) in
+      let t = handed w in
+      let l = take-lasting (w .card .core) core-facts (w .memory) in
       unless-keeps Good (takeRefusal w out) w out {x = show w (w .card .password) out t} (λ k. s)
-      (λ e. show-sound (w .card .password) out t (take-lasting (w .card .core) core-facts (w .memory)) (held-sound (take-held (w .card .core) (opened w) (w .memory))))
+      (λ e. show-sound (w .card .password) out t (record { facts = l .facts; blocks = l .blocks; inside = l .inside }) (held-sound (take-held (w .card .core) (opened w) (w .memory))))
 
   overed-sound : Sound (overed w .world)
   unfolding overed
@@ -137,7 +157,7 @@ module _ (w : World) (s : Sound w) where
 pub keeps-sound : KeepsSound
 unfolding step
 keeps-sound w (powerUp settings p) s = poweredUp-sound w s settings p
-keeps-sound w (commandFrame frame out) s = framed-sound w s frame out
+keeps-sound w (commandFrame frame low out) s = framed-sound w s frame low out
 keeps-sound w (blockIn packet) s = given-sound w s packet
 keeps-sound w (takeBlock out) s = taken-sound w s out
 keeps-sound w busyOver s = overed-sound w s

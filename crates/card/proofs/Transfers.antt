@@ -6,10 +6,10 @@ use Prim.Native.Nat.{ℕ, _+_, _-_, _/_, _%_, _≤_, _<_}
 use native.Mathlib.Omega.{arith}
 use borrow.Author.Tests.{leb-false, ltb-false, eqb-true, not-false}
 use lib.Dec.{eqb}
-use lib.ListN.{length, length-take}
-use Rattle.wire_packet.specs.Packet.{packetRight, payloadOf, CHECK}
+use lib.ListN.{length}
+use Rattle.wire_packet.specs.Packet.{CHECK}
 use Rattle.card.specs.declared.Source.{Source}
-use Rattle.card.specs.declared.Source.the-variants.{Blocks, WriteProtect, SdStatus, WrittenBlocks, Scr}
+use Rattle.card.specs.declared.Source.the-variants.{Blocks, WriteProtect, SdStatus, WrittenBlocks, Scr, Csd, Cid}
 use Rattle.card.specs.declared.Sink.{Sink}
 use Rattle.card.specs.declared.Sink.the-variants.{Single, Multiple, LockUnlock}
 use Rattle.card.specs.declared.State.{State}
@@ -17,57 +17,27 @@ use Rattle.card.specs.declared.State.the-variants.{Idle, Ready, Ident, S
 use Rattle.card.specs.declared.Open.{Open}
 use Rattle.card.specs.declared.Open.the-variants.{Nothing, Read, Write, Busy}
 use Rattle.card.specs.declared.Core.{Core}
+use Rattle.card.specs.declared.command.Command.the-variants.{StopTransmission}
+use Rattle.card.specs.declared.done.Flag.the-variants.{Keep}
 use Rattle.card.specs.declared.lock.Operation.{Operation}
 use Rattle.card.specs.declared.lock.Operation.the-variants.{ForceErase, Lock, Unlock, ClearPassword, SetPassword, Invalid}
 use Rattle.card.specs.Settings.{BLOCK, capacity}
 use Rattle.card.specs.Record.{withState, withWritten}
-use Rattle.card.specs.State.{number, openOf, locking, sourceAddress, sink}
+use Rattle.card.specs.State.{number, inSpi, openOf, locking, sourceAddress, sink}
 use Rattle.card.specs.Protect.{whole, guarded}
 use Rattle.card.specs.Checks.{outside, crossing}
-use Rattle.card.specs.Frame.{Turn, token}
+use Rattle.card.specs.Frame.{Turn, token, quiet, said}
 use Rattle.card.specs.Lock.{operation}
-use Rattle.card.specs.Data.{said, takeSource, takeFrom, writeInto, operate, lockInto, blockInto, overFrom, holdWrite, accepted, REJECTED}
+use Rattle.card.specs.Data.{takeSource, takeFrom, writeInto, operate, lockInto, blockInto, overFrom, holdWrite, accepted, REJECTED}
+use Rattle.card.specs.Table.{after}
+use Rattle.card.specs.Execute.{moved}
 use Rattle.card.specs.Soundness.{badRca, badApp}
-use Rattle.card.specs.Step.{blockSize}
+use Rattle.card.specs.Step.{packetSize}
 use Rattle.card.proofs.Choices.{cond-elim, cond-either}
 use Rattle.card.proofs.Facts.{Transfer, Facts}
 use Rattle.card.proofs.Changes.{stand, unprotect, none-transfer, data-transfer, rcv-transfer}
+use Rattle.card.proofs.Moves.{arrive-transfer, Selected, stby-selected, tran-selected, data-selected, rcv-selected, prg-selected, dis-selected}
 use Rattle.card.proofs.Frames.{Lasting, lasting}
-
--- ---- the states from stby to dis
-
--- the RCA is not zero, and the application mark may stand
-record Selected (s : State) : Type 0 where
-  rca : (n : ℕ) → badRca (number s) n ≡ eqb n 0
-  app : (b : Bool) → badApp (number s) b ≡ false
-
-nowhere : (b : Bool) → (b && false) ≡ false
-nowhere true = refl
-nowhere false = refl
-
-stby-selected : Selected Stby
-unfolding badRca badApp
-stby-selected = record { rca = λ n. refl; app = nowhere }
-
-tran-selected : Selected Tran
-unfolding badRca badApp
-tran-selected = record { rca = λ n. refl; app = nowhere }
-
-data-selected : (s : Source) → Selected (Data s)
-unfolding badRca badApp
-data-selected s = record { rca = λ n. refl; app = nowhere }
-
-rcv-selected : (s : Sink) → Selected (Rcv s)
-unfolding badRca badApp
-rcv-selected s = record { rca = λ n. refl; app = nowhere }
-
-prg-selected : Selected Prg
-unfolding badRca badApp
-prg-selected = record { rca = λ n. refl; app = nowhere }
-
-dis-selected : Selected Dis
-unfolding badRca badApp
-dis-selected = record { rca = λ n. refl; app = nowhere }
 
 -- what is known of a state by what it has open
 abbrev Opens : Open → State → Type 0
@@ -93,7 +63,8 @@ module _ (c : Core) (f : Facts c) where
   goes : (to : State) (n : ℕ) → Selected (c .bus .state) → Selected to → Transfer (c .settings) (openOf to) n
       → Facts (withWritten (withState c to) n)
   goes to n here there t =
-      (stand c (f .0) to (c .bus .rca) n t (there .rca (c .bus .rca) ∙ sym (here .rca (c .bus .rca)) ∙ f .0 .rca), there .app (c .bus .app))
+      let spi = inSpi (c .bus .mode) in
+      (stand c (f .0) to (c .bus .rca) n t (there .rca spi (c .bus .rca) ∙ sym (here .rca spi (c .bus .rca)) ∙ f .0 .rca), there .app spi (c .bus .app))
 
   -- the transfer is over
   ends : (to : State) → Selected (c .bus .state) → Selected to → openOf to ≡ Nothing → Facts (withState c to)
@@ -135,6 +106,8 @@ module _ (c : Core) (f : Facts c) where
   source-lasting memory SdStatus here near = lasting (tran-facts here) refl
   source-lasting memory WrittenBlocks here near = lasting (tran-facts here) refl
   source-lasting memory Scr here near = lasting (tran-facts here) refl
+  source-lasting memory Csd here near = lasting (tran-facts here) refl
+  source-lasting memory Cid here near = lasting (tran-facts here) refl
 
   take-open : (memory : List ℕ) (o : Open) → Opens o (c .bus .state) → Transfer (c .settings) o (c .written) → Lasting c (takeFrom o c memory)
   unfolding takeFrom
@@ -170,19 +143,19 @@ module _ (c : Core) (f : Facts c) where
           (λ q. rcv-facts true false (a + BLOCK) n (omega arith) (omega arith) more)
           (λ q. goes Prg n here prg-selected (busy-transfer n room))
 
-      write-lasting : (packet : List ℕ) → length packet ≡ BLOCK + CHECK → Lasting c (writeInto multiple a held c packet)
-      unfolding writeInto payloadOf
-      write-lasting packet size =
+      write-lasting : (right : Bool) (payload : List ℕ) → length payload ≡ BLOCK → Lasting c (writeInto multiple a held right c payload)
+      unfolding writeInto
+      write-lasting right payload size =
           let P : Turn → Type 0 = λ t. Lasting c t in
           let top = capacity (c .settings) in
           cond-elim P held (λ t. lasting f refl)
-          (λ t. cond-elim P (not (packetRight packet))
+          (λ t. cond-elim P (not right)
           (λ u. cond-elim (λ (d : Core). Lasting c (said d (token REJECTED))) multiple (λ q. lasting hold refl) (λ q. lasting (tran-facts here) refl))
           (λ u. cond-elim P (outside top a) (λ v. lasting hold refl)
           (λ v. cond-elim P (guarded (whole (c .settings)) (c .marks) a) (λ x. lasting hold refl)
           (λ x.
           let below : a < top = leb-false top a v in
-          record { facts = on below; blocks = refl; inside = simp length-take (omega arith) }))))
+          record { facts = on below; blocks = refl; inside = omega arith }))))
 
   -- ---- a block of 42
 
@@ -197,32 +170,43 @@ module _ (c : Core) (f : Facts c) where
   operate-lasting g (SetPassword lock) = lasting g refl
   operate-lasting g Invalid = lasting g refl
 
-  lock-lasting : (success : Bool) (packet : List ℕ) → Selected (c .bus .state) → Lasting c (lockInto success c packet)
+  lock-lasting : (right success : Bool) (payload : List ℕ) → Selected (c .bus .state) → Lasting c (lockInto right success c payload)
   unfolding lockInto
-  lock-lasting success packet here =
+  lock-lasting right success payload here =
       let P : Turn → Type 0 = λ t. Lasting c t in
       let prg : Facts (withState c Prg) = prg-facts here in
-      cond-either P (not (packetRight packet)) (lasting (tran-facts here) refl)
-      (cond-either P success (operate-lasting prg (operation (payloadOf packet))) (lasting prg refl))
+      cond-either P (not right) (lasting (tran-facts here) refl)
+      (cond-either P success (operate-lasting prg (operation payload)) (lasting prg refl))
 
-  block-open : (success : Bool) (packet : List ℕ) (o : Open) → length packet ≡ cond (locking o) (c .length) BLOCK + CHECK → Opens o (c .bus .state)
-      → Transfer (c .settings) o (c .written) → Lasting c (blockInto o success c packet)
+  block-open : (right success : Bool) (payload : List ℕ) (o : Open) → length payload ≡ cond (locking o) (c .length) BLOCK → Opens o (c .bus .state)
+      → Transfer (c .settings) o (c .written) → Lasting c (blockInto o right success c payload)
   unfolding blockInto
-  block-open success packet Nothing size h t = lasting f refl
-  block-open success packet (Read src) size h t = lasting f refl
-  block-open success packet (Write (Single a held)) size h t =
+  block-open right success payload Nothing size h t = lasting f refl
+  block-open right success payload (Read src) size h t = lasting f refl
+  block-open right success payload (Write (Single a held)) size h t =
       let aligned : a % BLOCK ≡ 0 = eqb-true (a % BLOCK) 0 (not-false (eqb (a % BLOCK) 0) (t .aligned)) in
-      write-lasting false held a h (t .inside) aligned (t .most) packet size
-  block-open success packet (Write (Multiple a held)) size h t =
+      write-lasting false held a h (t .inside) aligned (t .most) right payload size
+  block-open right success payload (Write (Multiple a held)) size h t =
       let aligned : a % BLOCK ≡ 0 = eqb-true (a % BLOCK) 0 (not-false (eqb (a % BLOCK) 0) (t .aligned)) in
-      write-lasting true held a h (t .inside) aligned (t .most) packet size
-  block-open success packet (Write LockUnlock) size h t = lock-lasting success packet h
-  block-open success packet (Busy to) size h t = lasting f refl
+      write-lasting true held a h (t .inside) aligned (t .most) right payload size
+  block-open right success payload (Write LockUnlock) size h t = lock-lasting right success payload h
+  block-open right success payload (Busy to) size h t = lasting f refl
 
-  pub block-lasting : (success : Bool) (packet : List ℕ) → length packet ≡ blockSize c
-      → Lasting c (blockInto (openOf (c .bus .state)) success c packet)
-  unfolding blockSize
-  block-lasting success packet size = block-open success packet (openOf (c .bus .state)) size (opens (c .bus .state)) (f .0 .transfer)
+  pub block-lasting : (right success : Bool) (payload : List ℕ) → length payload + CHECK ≡ packetSize c
+      → Lasting c (blockInto (openOf (c .bus .state)) right success c payload)
+  unfolding packetSize
+  block-lasting right success payload size =
+      block-open right success payload (openOf (c .bus .state)) (omega arith) (opens (c .bus .state)) (f .0 .transfer)
+
+  -- ---- the stop token
+
+  -- in SPI mode nothing is asked of the state that it leaves
+  pub stop-lasting : inSpi (c .bus .mode) ≡ true → Lasting c (quiet (moved StopTransmission c) Keep)
+  unfolding after badRca badApp
+  stop-lasting spi =
+      let to = after StopTransmission (c .bus) (c .bus .state) in
+      lasting
+      (stand c (f .0) to (c .bus .rca) (c .written) (arrive-transfer _ (c .bus .state) (f .0 .transfer)) (rw spi refl), rw spi refl) refl
 
   -- ---- busy over
 

@@ -1,17 +1,17 @@
 -- Status bits that are kept are shown and read by nothing: a command, a block and a take do the same whatever they are.
 use mathlib.Core.Path.{_≡_, refl, sym, ap, subst, _∙_}
 use mathlib.Core.Bool.{Bool, true, false, cond, not, _&&_}
-use mathlib.Core.List.{List}
+use mathlib.Core.List.{List, [], _∷_}
 use mathlib.Core.Option.{Option, none, some}
 use Prim.Native.Nat.{ℕ, _+_, _-_, _/_}
 use lib.Dec.{eqb, leb, ltb}
-use Rattle.wire_frame.specs.Command.{frameCheck}
+use lib.ListN.{length, replicate}
+use Rattle.wire_frame.specs.Command.{frameCheck, frameCheckBy}
 use Rattle.wire_frame.specs.declared.command.FrameCheck.{FrameCheck}
 use Rattle.wire_frame.specs.declared.command.FrameCheck.the-variants.{Good, Size, Start, Check as WrongCheck}
-use Rattle.wire_packet.specs.Packet.{packetRight, payloadOf}
 use Rattle.wire_response.specs.Response as Wire
 use Rattle.card.specs.declared.Source.{Source}
-use Rattle.card.specs.declared.Source.the-variants.{Blocks, WriteProtect, SdStatus, WrittenBlocks, Scr}
+use Rattle.card.specs.declared.Source.the-variants.{Blocks, WriteProtect, SdStatus, WrittenBlocks, Scr, Csd as CsdBlock, Cid as CidBlock}
 use Rattle.card.specs.declared.Sink.{Sink}
 use Rattle.card.specs.declared.Sink.the-variants.{Single, Multiple}
 use Rattle.card.specs.declared.Open as Open
@@ -23,7 +23,7 @@ use Rattle.card.specs.declared.lock.Operation.{Operation}
 use Rattle.card.specs.declared.lock.Operation.the-variants.{ForceErase, Lock, Unlock, ClearPassword, SetPassword, Invalid}
 use Rattle.card.specs.declared.command.Command as Command
 use Rattle.card.specs.declared.command.Command.{Command}
-use Rattle.card.specs.declared.command.Command.the-variants.{GoIdleState, AllSendCid, SendRelativeAddr, SelectCard, DeselectCard, SendIfCond, SendCsd, SendCid, StopTransmission, SendStatus, AppCmd, GoInactiveState, SetBlocklen, ReadSingleBlock, ReadMultipleBlock, SendWriteProt, WriteBlock, WriteMultipleBlock, LockUnlock, SetWriteProt, ClrWriteProt, Erase, EraseWrBlkStart, EraseWrBlkEnd, SendNumWrBlocks, SendScr, SetWrBlkEraseCount, SetClrCardDetect, SdSendOpCond, Unknown}
+use Rattle.card.specs.declared.command.Command.the-variants.{GoIdleState, AllSendCid, SendRelativeAddr, SelectCard, DeselectCard, SendIfCond, SendCsd, SendCid, StopTransmission, SendStatus, AppCmd, GoInactiveState, SetBlocklen, ReadSingleBlock, ReadMultipleBlock, SendWriteProt, WriteBlock, WriteMultipleBlock, LockUnlock, SetWriteProt, ClrWriteProt, Erase, EraseWrBlkStart, EraseWrBlkEnd, SendNumWrBlocks, SendScr, SetWrBlkEraseCount, SetClrCardDetect, SdSendOpCond, ReadOcr, CrcOnOff, Unknown}
 use Rattle.card.specs.declared.done.Response as Response
 use Rattle.card.specs.declared.done.Response.{Response}
 use Rattle.card.specs.declared.done.Response.the-variants.{R1, R6, Cid, Csd, R3, R7}
@@ -31,17 +31,22 @@ use Rattle.card.specs.declared.done.Effect.{Effect}
 use Rattle.card.specs.declared.done.Done.{Done}
 use Rattle.card.specs.declared.done.Judged.{Judged}
 use Rattle.card.specs.declared.done.Flag.{Flag}
+use Rattle.card.specs.declared.done.Flag.the-variants.{Keep}
+use Rattle.card.specs.declared.Mode.the-variants.{Spi}
 use Rattle.card.specs.Settings.{BLOCK, capacity, cidBytes, csdBytes}
-use Rattle.card.specs.Record.{withKept, withApp, isSet, address}
-use Rattle.card.specs.State.{number, ina}
-use Rattle.card.specs.Status.{noBits}
+use Rattle.card.specs.Record.{withKept, withApp, withMode, isSet, address}
+use Rattle.card.specs.State.{idle, number, ina, inSpi, checking}
+use Rattle.card.specs.Status.{noBits, join}
 use Rattle.card.specs.Table.{row, commandOf, own, misses, setsApp, legal, accepts}
 use Rattle.card.specs.Protect.{whole, guarded, anyGuarded}
 use Rattle.card.specs.Checks.{Check, firstFailure, outside, crossing}
-use Rattle.card.specs.Execute.{ran, raise, moved, checked, readBlocks, writeBlocks, setMark, window, fitting, dropErase, pending, settled, eraseStart, eraseEnd, skipped, erased, erase, sendOpCond, runAt, run}
+use Rattle.card.specs.Execute.{ran, raise, moved, checked, readBlocks, writeBlocks, setMark, window, fitting, dropErase, pending, settled, eraseStart, eraseEnd, skipped, erased, erase, sendOpCond, sendOpCondSpi, sdSendOpCond, runAt, run}
 use Rattle.card.specs.Lock.{operation}
-use Rattle.card.specs.Frame.{Message, silence, r1, r6, plain, block, token, finished, Turn, judge, messageOf, cleared, finish, showSd, byCheck, receive}
+use Rattle.card.specs.Frame.{Message, silence, r1, r6, spiR1, plain, block, token, finished, Turn, quiet, judge, messageOf, cleared, finish}
+use Rattle.card.specs.Spi.{sendsR2, behindR1, finishSpi}
+use Rattle.card.specs.Receive.{chooses, chosen, shownSd, showSd, byCheck, receiveSd, showSpi, byCheckSpi, receive}
 use Rattle.card.specs.Data.{takeSource, takeFrom, writeInto, operate, lockInto, blockInto, overFrom}
+use Rattle.card.proofs.Received.{doing}
 use Rattle.card.proofs.Frames.{cleared-kept}
 
 -- the same choice on both sides
@@ -102,7 +107,7 @@ mark-same : (c : Core) (b : Kept) (k : Command) (value : Bool) (a : ℕ) → Sam
 mark-same c b k value a = checked-same c b _ (same refl)
 
 runAt-same : (k : Command) (c : Core) (b : Kept) (x a : ℕ) → SameDone (runAt k c x a) (runAt k (withKept c b) x a)
-unfolding runAt sendOpCond eraseStart eraseEnd
+unfolding runAt sdSendOpCond sendOpCondSpi sendOpCond eraseStart eraseEnd
 runAt-same GoIdleState c b x a = same refl
 runAt-same AllSendCid c b x a = same refl
 runAt-same SendRelativeAddr c b x a = same refl
@@ -133,9 +138,13 @@ runAt-same SendScr c b x a = same refl
 runAt-same SetWrBlkEraseCount c b x a = same refl
 runAt-same SetClrCardDetect c b x a = same refl
 runAt-same SdSendOpCond c b x a =
-    cond-both SameDone (eqb (window x) 0) (same refl)
+    cond-both SameDone (inSpi (c .bus .mode))
+    (same (cond-both Same (eqb (number (c .bus .state)) idle) (cond-both Same (eqb (c .bus .polls) 0) refl refl) refl))
+    (cond-both SameDone (eqb (window x) 0) (same refl)
     (cond-both SameDone (eqb (fitting x) 0) (same refl)
-    (cond-both SameDone (eqb (c .bus .polls) 0) (same refl) (same refl)))
+    (cond-both SameDone (eqb (c .bus .polls) 0) (same refl) (same refl))))
+runAt-same ReadOcr c b x a = same refl
+runAt-same CrcOnOff c b x a = same refl
 runAt-same Unknown c b x a = same refl
 
 settled-same : (k : Command) (c : Core) (b : Kept) → Same (settled k c) (settled k (withKept c b))
@@ -151,6 +160,7 @@ abbrev pub statusless : Message → Message
 statusless silence = silence
 statusless (r1 index word) = r1 index 0
 statusless (r6 rca word) = r6 rca 0
+statusless (spiR1 byte s) = spiR1 0 (replicate (length s) 0)
 statusless (plain s) = plain s
 statusless (block payload) = block payload
 statusless (token n) = token n
@@ -194,27 +204,80 @@ finish-same k n d e s =
       payload = refl;
     }
 
+-- in SPI mode, with other bits held before it
+second-same : (r2 : Bool) (x y : ℕ) → length (cond r2 (x ∷ []) []) ≡ length (cond r2 (y ∷ []) [])
+second-same true x y = refl
+second-same false x y = refl
+
+behind-same : (k : Command) (v w : Kept) (l m : Bool) (r : Response) → length (behindR1 k v l r) ≡ length (behindR1 k w m r)
+unfolding behindR1
+behind-same k v w l m Response.Nothing = refl
+behind-same k v w l m R1 = second-same (sendsR2 k) _ _
+behind-same k v w l m R6 = refl
+behind-same k v w l m Cid = refl
+behind-same k v w l m Csd = refl
+behind-same k v w l m (R3 ocr) = refl
+behind-same k v w l m (R7 voltage pattern) = refl
+
+finishSpi-same : (k : Command) (v w : Kept) (d e : Done) → SameDone d e → SameTurn (finishSpi v k d) (finishSpi w k e)
+finishSpi-same k v w d e s =
+    let x = join v (d .core .kept) in
+    let y = join w (e .core .kept) in
+    record {
+      core = ap (λ (x : Core). withApp x (setsApp (row k .kind))) (s .core);
+      flag = refl;
+      message = ap (λ (n : ℕ). spiR1 0 (replicate n 0))
+          (ap (λ (r : Response). length (behindR1 k x (d .core .locked) r)) (s .response) ∙ behind-same k x y (d .core .locked) (e .core .locked) (e .response));
+      effect = s .effect;
+      payload = refl;
+    }
+
+chosen-same : {d e : Done} → SameDone d e → SameDone (chosen d) (chosen e)
+chosen-same s = record { core = ap (λ (x : Core). withMode x (Spi false)) (s .core); response = s .response; effect = s .effect }
+
 module _ (c : Core) (b : Kept) where
-  judge-same : (index argument : ℕ) → SameTurn (showSd c (judge c index argument)) (showSd (withKept c b) (judge (withKept c b) index argument))
-  unfolding judge showSd
-  judge-same index argument =
+  doing-same : (k : Command) (x : ℕ) → SameDone (doing c k x) (doing (withKept c b) k x)
+  doing-same k x = run-same k (settled k c) (settled k (withKept c b)) (settled-same k c b) x
+
+  judge-same : (low : Bool) (index argument : ℕ) → SameTurn (showSd c low (judge c index argument)) (showSd (withKept c b) low (judge (withKept c b) index argument))
+  unfolding judge showSd shownSd
+  judge-same low index argument =
       let k = commandOf (c .bus) index argument in
-      let R : Judged → Judged → Type 0 = λ i j. SameTurn (showSd c i) (showSd (withKept c b) j) in
-      cond-both R (accepts k (c .locked) && legal k (c .bus .state))
+      let R : Judged → Judged → Type 0 = λ i j. SameTurn (showSd c low i) (showSd (withKept c b) low j) in
+      let s : SameDone (doing c k argument) (doing (withKept c b) k argument) = doing-same k argument in
+      cond-both R (accepts k (c .locked) && legal k (c .bus))
       (cond-both R (misses (row k .rca) (own (c .bus) argument)) (turned refl)
-      (finish-same k (number (c .bus .state)) _ _ (run-same k (settled k c) (settled k (withKept c b)) (settled-same k c b) argument)))
+      (cond-both SameTurn (chooses low k) (finishSpi-same k (c .kept) b _ _ (chosen-same s)) (finish-same k (number (c .bus .state)) _ _ s)))
       (turned refl)
 
-  byCheck-same : (f : FrameCheck) → SameTurn (byCheck f c) (byCheck f (withKept c b))
-  unfolding byCheck
-  byCheck-same (Good index argument) = judge-same index argument
-  byCheck-same Size = turned refl
-  byCheck-same Start = turned refl
-  byCheck-same WrongCheck = turned refl
+  judge-same-spi : (index argument : ℕ) → SameTurn (showSpi c (judge c index argument)) (showSpi (withKept c b) (judge (withKept c b) index argument))
+  unfolding judge showSpi
+  judge-same-spi index argument =
+      let k = commandOf (c .bus) index argument in
+      let R : Judged → Judged → Type 0 = λ i j. SameTurn (showSpi c i) (showSpi (withKept c b) j) in
+      cond-both R (accepts k (c .locked) && legal k (c .bus))
+      (cond-both R (misses (row k .rca) (own (c .bus) argument)) (turned refl) (finishSpi-same k (c .kept) b _ _ (doing-same k argument)))
+      (turned refl)
 
-  pub receive-same : (frame : List ℕ) → SameTurn (receive c frame) (receive (withKept c b) frame)
-  unfolding receive
-  receive-same frame = cond-both SameTurn (eqb (number (c .bus .state)) ina) (turned refl) (byCheck-same (frameCheck frame))
+  byCheck-same : (low : Bool) (f : FrameCheck) → SameTurn (byCheck f c low) (byCheck f (withKept c b) low)
+  unfolding byCheck
+  byCheck-same low (Good index argument) = judge-same low index argument
+  byCheck-same low Size = turned refl
+  byCheck-same low Start = turned refl
+  byCheck-same low WrongCheck = turned refl
+
+  byCheck-same-spi : (f : FrameCheck) → SameTurn (byCheckSpi f c) (byCheckSpi f (withKept c b))
+  unfolding byCheckSpi
+  byCheck-same-spi (Good index argument) = judge-same-spi index argument
+  byCheck-same-spi Size = turned refl
+  byCheck-same-spi Start = turned refl
+  byCheck-same-spi WrongCheck = turned refl
+
+  pub receive-same : (low : Bool) (frame : List ℕ) → SameTurn (receive c low frame) (receive (withKept c b) low frame)
+  unfolding receive receiveSd
+  receive-same low frame =
+      cond-both SameTurn (inSpi (c .bus .mode)) (byCheck-same-spi _)
+      (cond-both SameTurn (eqb (number (c .bus .state)) ina) (turned refl) (byCheck-same low _))
 
   -- ---- data
 
@@ -228,6 +291,8 @@ module _ (c : Core) (b : Kept) where
   source-same SdStatus memory = turned refl
   source-same WrittenBlocks memory = turned refl
   source-same Scr memory = turned refl
+  source-same CsdBlock memory = turned refl
+  source-same CidBlock memory = turned refl
 
   pub take-same : (o : Open) (memory : List ℕ) → SameTurn (takeFrom o c memory) (takeFrom o (withKept c b) memory)
   unfolding takeFrom
@@ -236,12 +301,12 @@ module _ (c : Core) (b : Kept) where
   take-same (Write s) memory = turned refl
   take-same (Busy s) memory = turned refl
 
-  sink-same : (multiple : Bool) (address : ℕ) (held : Bool) (packet : List ℕ)
-      → SameTurn (writeInto multiple address held c packet) (writeInto multiple address held (withKept c b) packet)
+  sink-same : (multiple : Bool) (address : ℕ) (held right : Bool) (payload : List ℕ)
+      → SameTurn (writeInto multiple address held right c payload) (writeInto multiple address held right (withKept c b) payload)
   unfolding writeInto
-  sink-same multiple address held packet =
+  sink-same multiple address held right payload =
       cond-both SameTurn held (turned refl)
-      (cond-both SameTurn (not (packetRight packet)) (turned (cond-both Same multiple refl refl))
+      (cond-both SameTurn (not right) (turned (cond-both Same multiple refl refl))
       (cond-both SameTurn (outside (capacity (c .settings)) address) (turned refl)
       (cond-both SameTurn (guarded (whole (c .settings)) (c .marks) address) (turned refl) (turned refl))))
 
@@ -253,20 +318,24 @@ module _ (c : Core) (b : Kept) where
   operate-same (SetPassword lock) = turned refl
   operate-same Invalid = turned refl
 
-  lock-same : (success : Bool) (packet : List ℕ) → SameTurn (lockInto success c packet) (lockInto success (withKept c b) packet)
+  lock-same : (right success : Bool) (payload : List ℕ) → SameTurn (lockInto right success c payload) (lockInto right success (withKept c b) payload)
   unfolding lockInto
-  lock-same success packet =
-      cond-both SameTurn (not (packetRight packet)) (turned refl)
-      (cond-both SameTurn success (operate-same (operation (payloadOf packet))) (turned refl))
+  lock-same right success payload =
+      cond-both SameTurn (not right) (turned refl) (cond-both SameTurn success (operate-same (operation payload)) (turned refl))
 
-  pub block-same : (o : Open) (success : Bool) (packet : List ℕ) → SameTurn (blockInto o success c packet) (blockInto o success (withKept c b) packet)
+  pub block-same : (o : Open) (right success : Bool) (payload : List ℕ)
+      → SameTurn (blockInto o right success c payload) (blockInto o right success (withKept c b) payload)
   unfolding blockInto
-  block-same Open.Nothing success packet = turned refl
-  block-same (Read s) success packet = turned refl
-  block-same (Write (Single address held)) success packet = sink-same false address held packet
-  block-same (Write (Multiple address held)) success packet = sink-same true address held packet
-  block-same (Write Sink.LockUnlock) success packet = lock-same success packet
-  block-same (Busy s) success packet = turned refl
+  block-same Open.Nothing right success payload = turned refl
+  block-same (Read s) right success payload = turned refl
+  block-same (Write (Single address held)) right success payload = sink-same false address held right payload
+  block-same (Write (Multiple address held)) right success payload = sink-same true address held right payload
+  block-same (Write Sink.LockUnlock) right success payload = lock-same right success payload
+  block-same (Busy s) right success payload = turned refl
+
+  -- the stop token
+  pub stop-same : SameTurn (quiet (moved StopTransmission c) Keep) (quiet (moved StopTransmission (withKept c b)) Keep)
+  stop-same = turned refl
 
   pub over-same : (o : Open) → SameTurn (overFrom o c) (overFrom o (withKept c b))
   unfolding overFrom

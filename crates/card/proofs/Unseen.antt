@@ -7,7 +7,6 @@ use Prim.Native.Nat.{ℕ}
 use lib.Dec.{eqb, ltb}
 use lib.ListN.{length}
 use Rattle.codec.specs.Answer.{done}
-use Rattle.wire_packet.specs.Packet.{packetRight, payloadOf}
 use Rattle.card.specs.declared.Sink.the-variants.{Single, Multiple, LockUnlock}
 use Rattle.card.specs.declared.State.the-variants.{Tran, Prg}
 use Rattle.card.specs.declared.Open.{Open}
@@ -23,10 +22,11 @@ use Rattle.card.specs.Status.{only, join, LOCK-UNLOCK-FAILED}
 use Rattle.card.specs.Soundness.{unsound, badPassword}
 use Rattle.card.specs.Execute.{raise}
 use Rattle.card.specs.Effects.{affected}
-use Rattle.card.specs.Frame.{Turn, token, receive}
+use Rattle.card.specs.Frame.{Turn, token, said}
+use Rattle.card.specs.Receive.{receive}
 use Rattle.card.specs.Lock.{operation, succeeds}
-use Rattle.card.specs.Data.{said, acted, operate, lockInto, takeFrom, blockInto, passwordInto, overFrom, ACCEPTED, REJECTED}
-use Rattle.card.specs.Step.{Call, powerUp, commandFrame, blockIn, takeBlock, busyOver, World, world, Result, over, refuse, refusal, FRAME-ROWS, BLOCK-ROWS, TAKE-ROWS, OVER-ROWS, unless, otherSize, rows, FRAME, ROOM, blockSize, blockRoom, show, start, opened, success, powerRefusal, frameRefusal, blockRefusal, takeRefusal, overRefusal, poweredUp, framed, given, taken, overed, step, next}
+use Rattle.card.specs.Data.{operate, lockInto, blockInto, overFrom, ACCEPTED, REJECTED}
+use Rattle.card.specs.Step.{Call, powerUp, commandFrame, blockIn, takeBlock, busyOver, World, world, Result, over, refuse, refusal, FRAME-ROWS, BLOCK-ROWS, TAKE-ROWS, OVER-ROWS, unless, otherSize, rows, FRAME, ROOM, otherBlock, blockRoom, show, start, opened, Incoming, payload, stop, ignored, success, entered, arrived, handed, powerRefusal, frameRefusal, blockRefusal, takeRefusal, overRefusal, poweredUp, framed, given, taken, overed, step, next}
 use Rattle.card.specs.History.{Sound}
 use Rattle.card.specs.Locked.{SameButPassword, locks, SameBits, AlikeButPassword, AgreeButPassword, PasswordUnseen}
 use Rattle.card.proofs.Sound.{keeps-sound}
@@ -134,34 +134,32 @@ module _ (w : World) (p : Password) where
   mixed (SetPassword lock) false true h q r = backward lock q r
   mixed Invalid false true h q r = backward (core .locked) q r
 
-  lock-alike : (s : List ℕ) (x y : Bool) → (operation (payloadOf s) ≡ ForceErase → x ≡ y) → (q r : Password)
-      → Matched true (show w q [] (lockInto x core s)) (show other r [] (lockInto y core s))
+  lock-alike : (right : Bool) (s : List ℕ) (x y : Bool) → (operation s ≡ ForceErase → x ≡ y) → (q r : Password)
+      → Matched true (show w q [] (lockInto right x core s)) (show other r [] (lockInto right y core s))
   unfolding lockInto
-  lock-alike s x y h q r = go (packetRight s)
-    where
-      wrong : Turn
-      wrong = said (withState core Tran) (token REJECTED)
-
-      go : (right : Bool)
-          → Matched true (show w q [] (cond (not right) wrong (cond x (operate (operation (payloadOf s)) core) failed)))
-          (show other r [] (cond (not right) wrong (cond y (operate (operation (payloadOf s)) core) failed)))
-      go true = mixed (operation (payloadOf s)) x y h q r
-      go false = show-alike true q r [] wrong
+  lock-alike true s x y h q r = mixed (operation s) x y h q r
+  lock-alike false s x y h q r = show-alike true q r [] (said (withState core Tran) (token REJECTED))
 
   -- a force erase does not look at the password
-  same-success : (s : List ℕ) → operation (payloadOf s) ≡ ForceErase → success w s ≡ success other s
+  same-success : (s : List ℕ) → operation s ≡ ForceErase → success w s ≡ success other s
   unfolding succeeds
   same-success s e = rw e refl
 
-  block-alike : (s : List ℕ) (o : Open) (q r : Password)
-      → Matched (locking o) (show w q [] (blockInto o (success w s) core s)) (show other r [] (blockInto o (success other s) core s))
+  block-alike : (right : Bool) (s : List ℕ) (o : Open) (q r : Password)
+      → Matched (locking o) (show w q [] (blockInto o right (success w s) core s)) (show other r [] (blockInto o right (success other s) core s))
   unfolding blockInto
-  block-alike s Nothing q r = show-alike false q r [] _
-  block-alike s (Read x) q r = show-alike false q r [] _
-  block-alike s (Write (Single a held)) q r = show-alike false q r [] _
-  block-alike s (Write (Multiple a held)) q r = show-alike false q r [] _
-  block-alike s (Write LockUnlock) q r = lock-alike s (success w s) (success other s) (same-success s) q r
-  block-alike s (Busy x) q r = show-alike false q r [] _
+  block-alike right s Nothing q r = show-alike false q r [] _
+  block-alike right s (Read x) q r = show-alike false q r [] _
+  block-alike right s (Write (Single a held)) q r = show-alike false q r [] _
+  block-alike right s (Write (Multiple a held)) q r = show-alike false q r [] _
+  block-alike right s (Write LockUnlock) q r = lock-alike right s (success w s) (success other s) (same-success s) q r
+  block-alike right s (Busy x) q r = show-alike false q r [] _
+
+  entered-alike : (i : Incoming) → Matched (locking (opened w)) (entered w i) (entered other i)
+  unfolding entered
+  entered-alike (payload right s) = block-alike right s (opened w) _ _
+  entered-alike stop = show-alike (locking (opened w)) _ _ [] _
+  entered-alike ignored = show-alike (locking (opened w)) _ _ [] _
 
   -- ---- the five calls
 
@@ -186,20 +184,18 @@ module _ (w : World) (p : Password) where
         let r : Result = record { answer = done over; world = world (start s q) (w .memory); out = [] } in
         unless-both (Matched false) (powerRefusal w s q) (powerRefusal w s q) refl w other [] r r (refuse-alike false [])
         (record { answer = refl; out = refl; memory = refl; world = λ h. record { core = refl; line = refl; memory = refl } })
-    step-alike (commandFrame frame out) =
-        let t = receive core frame in
+    step-alike (commandFrame frame low out) =
+        let t = receive core low frame in
         unless-both (Matched false) (frameRefusal w frame out) (frameRefusal other frame out)
         (same-refusal FRAME-ROWS (not (eqb (length frame) FRAME)) (ltb (length out) ROOM) false) w other out
         (show w (w .card .password) out t) (show other p out t) (refuse-alike false out) (show-alike false (w .card .password) p out t)
     step-alike (blockIn s) =
         let o = opened w in
-        let q = passwordInto o (success w s) (w .card .password) s in
-        let r = passwordInto o (success other s) p s in
         unless-both (Matched (locking o)) (blockRefusal w s) (blockRefusal other s)
-        (same-refusal BLOCK-ROWS (not (eqb (length s) (blockSize core))) false (not (writing o))) w other []
-        (show w q [] (blockInto o (success w s) core s)) (show other r [] (blockInto o (success other s) core s)) (refuse-alike (locking o) []) (block-alike s o q r)
+        (same-refusal BLOCK-ROWS (otherBlock core s) false (not (writing o))) w other []
+        (entered w (arrived w s)) (entered other (arrived w s)) (refuse-alike (locking o) []) (entered-alike (arrived w s))
     step-alike (takeBlock out) =
-        let t = takeFrom (opened w) core (w .memory) in
+        let t = handed w in
         unless-both (Matched false) (takeRefusal w out) (takeRefusal other out)
         (same-refusal TAKE-ROWS false (ltb (length out) (blockRoom core)) (not (reading (opened w)))) w other out
         (show w (w .card .password) out t) (show other p out t) (refuse-alike false out) (show-alike false (w .card .password) p out t)

@@ -14,6 +14,7 @@ use Rattle.card.specs.Lock.{noPassword}
 use Rattle.card.specs.Step.{powerUp, commandFrame, blockIn, takeBlock, busyOver, World, world, line, fresh, start, unpowered}
 use Rattle.card.specs.Reading.{sized, bench, small, polled, Reading, none, _shows_, six, frame, quietly, taking, taking-nothing, writing, damaging, overs, refusing, block, zeros, Example, on, from, decodes, holds, cidLine, selected, send-status}
 use Rattle.card.specs.BenchLock.{lockExamples}
+use Rattle.card.specs.BenchSpi.{spiExamples}
 
 -- ---- the table
 
@@ -158,14 +159,14 @@ examples =
     ∷ 0x4D0001000053 shows 0x0D000027001F
     ∷ 0x4D0001000053 shows 0x0D00000700FB ∷ []))
     -- row 1: a frame that is not 6 bytes, a block that is not 514
-    ∷ on small (refusing (commandFrame (0x40 ∷ []) (replicate 17 0)) 1 ∷ refusing (blockIn (replicate 513 0)) 1 ∷ [])
+    ∷ on small (refusing (commandFrame (0x40 ∷ []) false (replicate 17 0)) 1 ∷ refusing (blockIn (replicate 513 0)) 1 ∷ [])
     -- row 2: an unsound record, before row 3; row 1 before it for a frame, and behind it for a block
     ∷ from (world unpowered (0 ∷ []))
     (refusing (frame 0x400000000095) 2
     ∷ refusing (blockIn []) 2
     ∷ refusing (takeBlock (replicate 514 0)) 2
     ∷ refusing busyOver 2
-    ∷ refusing (commandFrame [] []) 1 ∷ [])
+    ∷ refusing (commandFrame [] false []) 1 ∷ [])
     -- row 3: memory of another size, at a power-up too
     ∷ from (world (start small noPassword) (replicate 2047 0))
     (refusing (frame 0x400000000095) 3
@@ -174,7 +175,7 @@ examples =
     ∷ refusing busyOver 3
     ∷ refusing (powerUp small noPassword) 3 ∷ [])
     -- row 4: a buffer under 17 bytes, and one under 514
-    ∷ on small (refusing (commandFrame (six 0x400000000095) (replicate 16 0)) 4 ∷ refusing (takeBlock (replicate 513 0)) 4 ∷ [])
+    ∷ on small (refusing (commandFrame (six 0x400000000095) false (replicate 16 0)) 4 ∷ refusing (takeBlock (replicate 513 0)) 4 ∷ [])
     -- row 5: blocks and takes outside their states
     ∷ on small (selected
     (refusing (takeBlock (replicate 514 0)) 5
@@ -201,7 +202,7 @@ examples =
     ∷ 0x6900FF800085 shows 0x3F00FF8000FF
     ∷ 0x770000000065 shows 0x370000012083
     ∷ 0x6900FF800085 shows 0x3F80FF8000FF ∷ [])
-    ∷ lockExamples
+    ∷ (lockExamples ++ spiExamples)
 
 unfoldable pub every : List Example → Bool
 every [] = true

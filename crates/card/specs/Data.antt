@@ -1,12 +1,11 @@
--- Data blocks (01, "Take", "Block in", "Busy over"; 02, order 4), by what the state has open.
+-- Data blocks (01, "Take", "Block in", "Busy over"; 02, order 4), by what the state has open: payloads, whatever frames them in a bus mode.
 use mathlib.Core.Bool.{Bool, true, false, cond, not, _&&_}
 use mathlib.Core.List.{List, [], _∷_}
 use Prim.Native.Nat.{ℕ, _+_}
 use lib.ListN.{take, drop, replicate}
 use Rattle.crc.specs.Bits.{bits, bytes}
-use Rattle.wire_packet.specs.Packet.{packetRight, payloadOf}
 use Rattle.card.specs.declared.Source.{Source}
-use Rattle.card.specs.declared.Source.the-variants.{Blocks, WriteProtect, SdStatus, WrittenBlocks, Scr}
+use Rattle.card.specs.declared.Source.the-variants.{Blocks, WriteProtect, SdStatus, WrittenBlocks, Scr, Csd, Cid}
 use Rattle.card.specs.declared.Sink.{Sink}
 use Rattle.card.specs.declared.Sink.the-variants.{Single, Multiple, LockUnlock}
 use Rattle.card.specs.declared.State.{State}
@@ -23,7 +22,7 @@ use Rattle.card.specs.declared.done.Effect as Effect
 use Rattle.card.specs.declared.done.Effect.{Effect}
 use Rattle.card.specs.declared.done.Effect.the-variants.{Nothing, Store}
 use Rattle.card.specs.declared.done.Flag.the-variants.{Keep}
-use Rattle.card.specs.Settings.{BLOCK, capacity, groups, scrBytes}
+use Rattle.card.specs.Settings.{BLOCK, capacity, groups, cidBytes, csdBytes, scrBytes}
 use Rattle.card.specs.Record.{withSettings, withLocked, withState, withWritten}
 use Rattle.card.specs.State.{sink, locking}
 use Rattle.card.specs.Status.{OUT-OF-RANGE, ADDRESS-ERROR, WP-VIOLATION, LOCK-UNLOCK-FAILED}
@@ -31,11 +30,7 @@ use Rattle.card.specs.Protect.{groupOf, whole, guarded, markBits}
 use Rattle.card.specs.Checks.{outside, crossing}
 use Rattle.card.specs.Execute.{raise}
 use Rattle.card.specs.Lock.{operation, changed}
-use Rattle.card.specs.Frame.{Message, block, token, finished, Turn, quiet}
-
--- a call of data leaves COM_CRC_ERROR
-abbrev pub said : Core → Message → Turn
-said c m = record { core = c; flag = Keep; message = m; effect = Nothing; payload = [] }
+use Rattle.card.specs.Frame.{block, token, finished, Turn, quiet, said}
 
 -- ---- take a block
 
@@ -69,6 +64,8 @@ takeSource (WriteProtect address) c memory = single c (markBytes c address)
 takeSource SdStatus c memory = single c (replicate 64 0)
 takeSource WrittenBlocks c memory = single c (word32 (c .written))
 takeSource Scr c memory = single c scrBytes
+takeSource Csd c memory = single c (csdBytes (c .csd))
+takeSource Cid c memory = single c (cidBytes (c .settings))
 
 -- where no read is open row 5 has refused the call
 unfoldable pub takeFrom : Open → Core → List ℕ → Turn
@@ -77,7 +74,7 @@ takeFrom (Read s) c memory = takeSource s c memory
 takeFrom (Write s) c memory = quiet c Keep
 takeFrom (Busy s) c memory = quiet c Keep
 
--- ---- block in, of 24 and 25
+-- ---- block in, of 24 and 25: its payload, and whether its check is right, or not judged
 
 -- 010 and 101
 abbrev pub ACCEPTED : ℕ
@@ -100,16 +97,16 @@ accepted c multiple address =
 
 -- stored at once
 abbrev pub storeBlock : Core → Bool → ℕ → List ℕ → Turn
-storeBlock c multiple address packet =
-    record { core = accepted c multiple address; flag = Keep; message = token ACCEPTED; effect = Store address; payload = payloadOf packet }
+storeBlock c multiple address payload =
+    record { core = accepted c multiple address; flag = Keep; message = token ACCEPTED; effect = Store address; payload = payload }
 
-unfoldable pub writeInto : Bool → ℕ → Bool → Core → List ℕ → Turn
-writeInto multiple address held c packet =
+unfoldable pub writeInto : Bool → ℕ → Bool → Bool → Core → List ℕ → Turn
+writeInto multiple address held right c payload =
     cond held (quiet c Keep)
-    (cond (not (packetRight packet)) (said (rejected c multiple address) (token REJECTED))
+    (cond (not right) (said (rejected c multiple address) (token REJECTED))
     (cond (outside (capacity (c .settings)) address) (quiet (holdWrite (raise c OUT-OF-RANGE) multiple address) Keep)
     (cond (guarded (whole (c .settings)) (c .marks) address) (quiet (holdWrite (raise c WP-VIOLATION) multiple address) Keep)
-    (storeBlock c multiple address packet))))
+    (storeBlock c multiple address payload))))
 
 -- ---- block in, of 42: the core is told whether the operation succeeds, and does not know the password
 
@@ -139,28 +136,27 @@ abbrev pub operate : Operation → Core → Turn
 operate o c = record { core = withState (acted o c) Prg; flag = Keep; message = token ACCEPTED; effect = effectOf o; payload = [] }
 
 -- a wrong check goes as for 24; any other block, failing or not, is answered 010 and goes to prg
-unfoldable pub lockInto : Bool → Core → List ℕ → Turn
-lockInto success c packet =
-    cond (not (packetRight packet)) (said (withState c Tran) (token REJECTED))
-    (cond success (operate (operation (payloadOf packet)) c) (said (withState (raise c LOCK-UNLOCK-FAILED) Prg) (token ACCEPTED)))
+unfoldable pub lockInto : Bool → Bool → Core → List ℕ → Turn
+lockInto right success c payload =
+    cond (not right) (said (withState c Tran) (token REJECTED))
+    (cond success (operate (operation payload) c) (said (withState (raise c LOCK-UNLOCK-FAILED) Prg) (token ACCEPTED)))
 
 -- the password after it
-unfoldable pub passwordInto : Open → Bool → Password → List ℕ → Password
-passwordInto o success p packet =
-    cond (locking o && (packetRight packet && success)) (changed (operation (payloadOf packet)) p (payloadOf packet)) p
+unfoldable pub passwordInto : Open → Bool → Bool → Password → List ℕ → Password
+passwordInto o right success p payload = cond (locking o && (right && success)) (changed (operation payload) p payload) p
 
 -- ---- block in
 
-abbrev pub writeSink : Sink → Bool → Core → List ℕ → Turn
-writeSink (Single address held) success c packet = writeInto false address held c packet
-writeSink (Multiple address held) success c packet = writeInto true address held c packet
-writeSink LockUnlock success c packet = lockInto success c packet
+abbrev pub writeSink : Sink → Bool → Bool → Core → List ℕ → Turn
+writeSink (Single address held) right success c payload = writeInto false address held right c payload
+writeSink (Multiple address held) right success c payload = writeInto true address held right c payload
+writeSink LockUnlock right success c payload = lockInto right success c payload
 
-unfoldable pub blockInto : Open → Bool → Core → List ℕ → Turn
-blockInto Open.Nothing success c packet = quiet c Keep
-blockInto (Read s) success c packet = quiet c Keep
-blockInto (Write s) success c packet = writeSink s success c packet
-blockInto (Busy s) success c packet = quiet c Keep
+unfoldable pub blockInto : Open → Bool → Bool → Core → List ℕ → Turn
+blockInto Open.Nothing right success c payload = quiet c Keep
+blockInto (Read s) right success c payload = quiet c Keep
+blockInto (Write s) right success c payload = writeSink s right success c payload
+blockInto (Busy s) right success c payload = quiet c Keep
 
 -- ---- busy over
 

@@ -1,5 +1,6 @@
--- What each command does when it runs (01, "Transitions", "Start checks", "Erase"). No bus mode is mentioned.
-use mathlib.Core.Bool.{Bool, true, false, cond, _&&_, _||_}
+-- What each command does when it runs (01, "Transitions", "Start checks", "Erase"). The bus mode is asked by 0 and A41 alone; where a
+-- command leads in it is the table's matter.
+use mathlib.Core.Bool.{Bool, true, false, cond, not, _&&_, _||_}
 use mathlib.Core.List.{List}
 use mathlib.Core.Option.{none, some}
 use Prim.Native.Nat.{ℕ, _+_, _-_, _/_, _%_, _^_}
@@ -8,11 +9,12 @@ use Rattle.card.specs.declared.Source.{Source}
 use Rattle.card.specs.declared.Source.the-variants.{Blocks, WriteProtect, WrittenBlocks}
 use Rattle.card.specs.declared.Sink.{Sink}
 use Rattle.card.specs.declared.State.{State}
-use Rattle.card.specs.declared.State.the-variants.{Idle, Ready, Data, Rcv, Ina}
+use Rattle.card.specs.declared.Mode.the-variants.{Spi}
+use Rattle.card.specs.declared.State.the-variants.{Idle, Ready, Tran, Data, Rcv, Ina}
 use Rattle.card.specs.declared.EraseMark.the-variants.{Unset, At}
 use Rattle.card.specs.declared.Core.{Core}
 use Rattle.card.specs.declared.command.Command.{Command}
-use Rattle.card.specs.declared.command.Command.the-variants.{GoIdleState, AllSendCid, SendRelativeAddr, SelectCard, DeselectCard, SendIfCond, SendCsd, SendCid, StopTransmission, SendStatus, AppCmd, GoInactiveState, SetBlocklen, ReadSingleBlock, ReadMultipleBlock, SendWriteProt, WriteBlock, WriteMultipleBlock, LockUnlock, SetWriteProt, ClrWriteProt, Erase, EraseWrBlkStart, EraseWrBlkEnd, SdStatus, SendNumWrBlocks, SendScr, SetWrBlkEraseCount, SetClrCardDetect, SdSendOpCond, Unknown}
+use Rattle.card.specs.declared.command.Command.the-variants.{GoIdleState, AllSendCid, SendRelativeAddr, SelectCard, DeselectCard, SendIfCond, SendCsd, SendCid, StopTransmission, SendStatus, AppCmd, GoInactiveState, SetBlocklen, ReadSingleBlock, ReadMultipleBlock, SendWriteProt, WriteBlock, WriteMultipleBlock, LockUnlock, SetWriteProt, ClrWriteProt, Erase, EraseWrBlkStart, EraseWrBlkEnd, SdStatus, SendNumWrBlocks, SendScr, SetWrBlkEraseCount, SetClrCardDetect, SdSendOpCond, ReadOcr, CrcOnOff, Unknown}
 use Rattle.card.specs.declared.done.Response.{Response}
 use Rattle.card.specs.declared.done.Response.the-variants.{Nothing, R1, R6, Cid, Csd, R3, R7}
 use Rattle.card.specs.declared.done.Effect as Effect
@@ -20,8 +22,8 @@ use Rattle.card.specs.declared.done.Effect.{Effect}
 use Rattle.card.specs.declared.done.Effect.the-variants.{Sweep, Protect}
 use Rattle.card.specs.declared.done.Done.{Done}
 use Rattle.card.specs.Settings.{BLOCK, capacity, addressOf, ocrOf}
-use Rattle.card.specs.Record.{withKept, withErase, withLength, withWritten, withState, withRca, withPolls, noErase, isSet, address}
-use Rattle.card.specs.State.{sink}
+use Rattle.card.specs.Record.{withKept, withErase, withLength, withWritten, withState, withRca, withPolls, withMode, noErase, isSet, address}
+use Rattle.card.specs.State.{idle, number, inSpi, unchecked, sink}
 use Rattle.card.specs.Status.{noBits, only, join, BLOCK-LEN-ERROR, ERASE-SEQ-ERROR, ERASE-PARAM, WP-ERASE-SKIP, ERASE-RESET}
 use Rattle.card.specs.Table.{row, after}
 use Rattle.card.specs.Protect.{whole, groupOf, guarded, anyGuarded}
@@ -37,11 +39,11 @@ raise c n = withKept c (join (c .kept) (only n))
 
 -- a plain move, with no transfer of its own
 abbrev pub moved : Command → Core → Core
-moved k c = withState c (after k (c .bus .state) (c .bus .state))
+moved k c = withState c (after k (c .bus) (c .bus .state))
 
 -- a move that opens a transfer
 abbrev pub opening : Command → Core → State → Core
-opening k c t = withState c (after k (c .bus .state) t)
+opening k c t = withState c (after k (c .bus) t)
 
 -- a start check that fails sets its bit, shown in that command's R1, and the card stays in tran (house)
 abbrev pub checked : Core → List Check → Done → Done
@@ -53,7 +55,7 @@ abbrev pub reset : Core → Core
 reset c = record {
   settings = c .settings;
   csd = c .csd;
-  bus = record { state = Idle; rca = 0; published = c .bus .published; polls = c .settings .polls; app = false };
+  bus = record { mode = unchecked (c .bus .mode); state = Idle; rca = 0; published = c .bus .published; polls = c .settings .polls; app = false };
   kept = noBits;
   erase = noErase;
   length = BLOCK;
@@ -68,9 +70,9 @@ reset c = record {
 abbrev pub nextRca : ℕ → ℕ
 nextRca last = cond (eqb last 0xFFFF) 1 (last + 1)
 
--- 8: voltage field 1, else silent
+-- 8: voltage field 1 is accepted
 abbrev pub sendIfCond : Core → ℕ → Done
-sendIfCond c argument = ran c (cond (eqb (argument / 2 ^ 8 % 2 ^ 4) 1) (R7 1 (argument % 2 ^ 8)) Nothing)
+sendIfCond c argument = ran c (R7 (cond (eqb (argument / 2 ^ 8 % 2 ^ 4) 1) 1 0) (argument % 2 ^ 8))
 
 -- A41: bits 23..0 of the argument; and those that share a bit with FF8000h
 abbrev pub window : ℕ → ℕ
@@ -85,6 +87,24 @@ sendOpCond c argument =
     (cond (eqb (fitting argument) 0) (ran (withState c Ina) Nothing)
     (cond (eqb (c .bus .polls) 0) (ran (withState c Ready) (R3 (ocrOf true)))
     (ran (withPolls c (c .bus .polls - 1)) (R3 (ocrOf false)))))
+
+-- in SPI mode no window is looked at: a poll is used up, or the card leaves idle; outside idle nothing is to be done
+unfoldable pub sendOpCondSpi : Core → Core
+sendOpCondSpi c =
+    cond (eqb (number (c .bus .state)) idle) (cond (eqb (c .bus .polls) 0) (withState c Tran) (withPolls c (c .bus .polls - 1))) c
+
+unfoldable pub sdSendOpCond : Core → ℕ → Done
+sdSendOpCond c argument = cond (inSpi (c .bus .mode)) (ran (sendOpCondSpi c) R1) (sendOpCond c argument)
+
+-- ---- SPI mode alone
+
+-- 58: bit 31 outside idle only
+abbrev pub readOcr : Core → Done
+readOcr c = ran c (R3 (ocrOf (not (eqb (number (c .bus .state)) idle))))
+
+-- 59: bit 0 of the argument turns the checks on
+abbrev pub crcOnOff : Core → ℕ → Done
+crcOnOff c argument = ran (withMode c (Spi (eqb (argument % 2) 1))) R1
 
 -- ---- transfers
 
@@ -156,8 +176,8 @@ runAt SendRelativeAddr c argument a = ran (moved SendRelativeAddr (withRca c (ne
 runAt SelectCard c argument a = ran (moved SelectCard c) R1
 runAt DeselectCard c argument a = ran (moved DeselectCard c) Nothing
 runAt SendIfCond c argument a = sendIfCond c argument
-runAt SendCsd c argument a = ran c Csd
-runAt SendCid c argument a = ran c Cid
+runAt SendCsd c argument a = ran (opening SendCsd c (Data Source.Csd)) Csd
+runAt SendCid c argument a = ran (opening SendCid c (Data Source.Cid)) Cid
 runAt StopTransmission c argument a = ran (moved StopTransmission c) R1
 runAt SendStatus c argument a = ran c R1
 runAt AppCmd c argument a = ran c R1
@@ -179,7 +199,9 @@ runAt SendNumWrBlocks c argument a = ran (opening SendNumWrBlocks c (Data Writte
 runAt SendScr c argument a = ran (opening SendScr c (Data Source.Scr)) R1
 runAt SetWrBlkEraseCount c argument a = ran c R1
 runAt SetClrCardDetect c argument a = ran c R1
-runAt SdSendOpCond c argument a = sendOpCond c argument
+runAt SdSendOpCond c argument a = sdSendOpCond c argument
+runAt ReadOcr c argument a = readOcr c
+runAt CrcOnOff c argument a = crcOnOff c argument
 runAt Unknown c argument a = ran c Nothing
 
 abbrev pub run : Command → Core → ℕ → Done

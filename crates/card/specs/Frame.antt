@@ -1,13 +1,9 @@
--- The frame rules (01, "Frames"), in order, in two parts: which command a frame asks for and what it does, in either bus mode; and
--- what silence, response and error show in SD mode.
+-- Which command a frame asks for and what it does, in either bus mode; what a call comes to; and the responses of SD mode (01, "Frames").
 use mathlib.Core.Bool.{Bool, true, false, cond, _&&_}
 use mathlib.Core.List.{List, [], _∷_}
 use Prim.Native.Nat.{ℕ}
 use lib.Dec.{eqb}
 use Rattle.codec.specs.Format.{image}
-use Rattle.wire_frame.specs.Command.{frameCheck}
-use Rattle.wire_frame.specs.declared.command.FrameCheck.{FrameCheck}
-use Rattle.wire_frame.specs.declared.command.FrameCheck.the-variants.{Good, Size, Start, Check}
 use Rattle.wire_response.specs.Response as Wire
 use Rattle.card.specs.declared.Core.{Core}
 use Rattle.card.specs.declared.command.Command.{Command}
@@ -21,13 +17,12 @@ use Rattle.card.specs.declared.done.Verdict.{Verdict}
 use Rattle.card.specs.declared.done.Verdict.the-variants.{NotAllowed, OtherCard, Ran}
 use Rattle.card.specs.declared.done.Judged.{Judged}
 use Rattle.card.specs.declared.done.Flag.{Flag}
-use Rattle.card.specs.declared.done.Flag.the-variants.{Keep, Set, Clear}
+use Rattle.card.specs.declared.done.Flag.the-variants.{Keep, Clear}
 use Rattle.card.specs.Settings.{cidBytes, csdBytes}
 use Rattle.card.specs.Record.{withKept, withApp}
-use Rattle.card.specs.State.{number, ina}
-use Rattle.card.specs.Status.{noBits, withoutIllegal, ILLEGAL-COMMAND, status}
+use Rattle.card.specs.Status.{noBits, withoutIllegal, status}
 use Rattle.card.specs.Table.{row, commandOf, own, misses, showsApp, setsApp, legal, accepts}
-use Rattle.card.specs.Execute.{ran, raise, settled, run}
+use Rattle.card.specs.Execute.{ran, settled, run}
 
 -- ---- which command, allowed or not, and what it does
 
@@ -38,7 +33,7 @@ judged v k d = record { verdict = v; command = k; done = d }
 unfoldable pub judge : Core → ℕ → ℕ → Judged
 judge c index argument =
     let k = commandOf (c .bus) index argument in
-    cond (accepts k (c .locked) && legal k (c .bus .state))
+    cond (accepts k (c .locked) && legal k (c .bus))
     (cond (misses (row k .rca) (own (c .bus) argument)) (judged OtherCard k (ran c Response.Nothing))
     (judged Ran k (run k (settled k c) argument)))
     (judged NotAllowed k (ran c Response.Nothing))
@@ -50,7 +45,9 @@ pub data Message : Type 0 where
   -- R1 with index and status, R6 with RCA and status; the status lacks COM_CRC_ERROR
   r1 : ℕ → ℕ → Message
   r6 : ℕ → ℕ → Message
-  -- R2, R3 and R7, which carry no status
+  -- SPI mode: R1, which lacks COM_CRC_ERROR, and the bytes behind it
+  spiR1 : ℕ → List ℕ → Message
+  -- bytes that carry no status: R2, R3 and R7, an error of SPI mode
   plain : List ℕ → Message
   -- the payload of a data block
   block : List ℕ → Message
@@ -71,13 +68,17 @@ pub record Turn : Type 0 where
 abbrev pub quiet : Core → Flag → Turn
 quiet c f = record { core = c; flag = f; message = silence; effect = Effect.Nothing; payload = [] }
 
+-- a message that leaves COM_CRC_ERROR; memory and marks stay
+abbrev pub said : Core → Message → Turn
+said c m = record { core = c; flag = Keep; message = m; effect = Effect.Nothing; payload = [] }
+
 -- ---- SD mode: a command that ran; state is the number of the state at reception
 
 -- the status word that a response shows: the bits held before and the command's own, and the lock
 abbrev pub wordOf : Command → ℕ → Done → ℕ
 wordOf k state d = status (d .core .kept) (d .core .locked) state (showsApp (row k .kind))
 
--- the message of a response
+-- the message of a response; a voltage that 8 does not accept gets silence
 unfoldable pub messageOf : Command → ℕ → Done → Response → Message
 messageOf k state d Response.Nothing = silence
 messageOf k state d R1 = r1 (row k .index) (wordOf k state d)
@@ -85,7 +86,7 @@ messageOf k state d R6 = r6 (d .core .bus .rca) (wordOf k state d)
 messageOf k state d Cid = plain (Wire.r2Bytes (cidBytes (d .core .settings)))
 messageOf k state d Csd = plain (Wire.r2Bytes (csdBytes (d .core .csd)))
 messageOf k state d (R3 ocr) = plain (image Wire.r3 (ocr ∷ []))
-messageOf k state d (R7 voltage pattern) = plain (image Wire.r7 (voltage ∷ pattern ∷ []))
+messageOf k state d (R7 voltage pattern) = cond (eqb voltage 0) silence (plain (image Wire.r7 (voltage ∷ pattern ∷ [])))
 
 -- bit 22 goes, and so does each clear-by-read bit that the response carried: R1 carries them all, the others none that is kept
 unfoldable pub cleared : Response → Core → Core
@@ -106,23 +107,3 @@ finish k state d = record {
   effect = d .effect;
   payload = [];
 }
-
--- ---- SD mode: the frame rules
-
-unfoldable pub showSd : Core → Judged → Turn
-showSd c j = elim (j .verdict) [
-  | NotAllowed ↦ quiet (withApp (raise c ILLEGAL-COMMAND) false) Keep
-  | OtherCard ↦ quiet (withApp c false) Keep
-  | Ran ↦ finish (j .command) (number (c .bus .state)) (j .done)
-]
-
--- what the frame check says: start or transmission bit wrong, nothing changes (house); check or end bit wrong, COM_CRC_ERROR
-unfoldable pub byCheck : FrameCheck → Core → Turn
-byCheck (Good index argument) c = showSd c (judge c index argument)
-byCheck Size c = quiet c Keep
-byCheck Start c = quiet c Keep
-byCheck Check c = quiet c Set
-
--- in ina nothing changes
-unfoldable pub receive : Core → List ℕ → Turn
-receive c frame = cond (eqb (number (c .bus .state)) ina) (quiet c Keep) (byCheck (frameCheck frame) c)

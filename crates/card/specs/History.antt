@@ -1,11 +1,12 @@
--- Demand 3 (01, "The histories of demand 3"): one claim about a list of calls with damaged copies of frames inserted.
+-- Demand 3 (01, "The histories of demand 3"; 02, order 5): one claim about a list of calls with damaged copies of frames inserted, in both
+-- bus modes.
 use mathlib.Core.Path.{_≡_}
-use mathlib.Core.Bool.{true, false, cond}
-use mathlib.Core.List.{List, [], _∷_}
+use mathlib.Core.Bool.{Bool, true, false, cond}
+use mathlib.Core.List.{List, [], _∷_, _++_}
 use mathlib.Core.Option.{Option, none, some}
-use Prim.Native.Nat.{ℕ, _%_, _≤_}
+use Prim.Native.Nat.{ℕ, _+_, _*_, _/_, _%_, _≤_}
 use lib.Dec.{eqb}
-use lib.ListN.{length, getD, set}
+use lib.ListN.{length, getD, set, drop}
 use Rattle.codec.specs.Answer.{Outcome, done, refused}
 use Rattle.wire_frame.specs.Damage.{DamagedFrame}
 use Rattle.wire_packet.specs.Damage.{DamagedBlock}
@@ -14,9 +15,11 @@ use Rattle.card.specs.declared.Password.{Password}
 use Rattle.card.specs.declared.State.the-variants.{Idle}
 use Rattle.card.specs.Settings.{capacity}
 use Rattle.card.specs.Record.{withState}
+use Rattle.card.specs.State.{inSpi, checking}
 use Rattle.card.specs.Soundness.{unsound, badPassword}
+use Rattle.card.specs.Spi.{COM-CRC-ERROR, errorR1}
 use Rattle.card.specs.Data.{ACCEPTED}
-use Rattle.card.specs.Step.{Call, powerUp, commandFrame, blockIn, takeBlock, busyOver, World, Reply, silent, sent, answered, over, ROOM, blockSize, permitted, step, next, start}
+use Rattle.card.specs.Step.{Call, powerUp, commandFrame, blockIn, takeBlock, busyOver, World, Reply, silent, sent, answered, over, Result, ROOM, packetSize, tokenSize, permitted, step, next, start}
 
 -- ---- what every call keeps
 
@@ -43,16 +46,21 @@ StartsSound = (w : World) → Start w → Sound w
 
 -- ---- demand 3
 
--- an entry: a call, or a damaged copy of a well-formed frame with an output buffer that is large enough
+-- an entry: a call, or a damaged copy of a well-formed frame, with chip select either way and an output buffer that is large enough
 pub data Entry : Type 0 where
   call : Call → Entry
-  copy : (frame out : List ℕ) → DamagedFrame frame → ROOM ≤ length out → Entry
+  copy : (frame : List ℕ) (low : Bool) (out : List ℕ) → DamagedFrame frame → ROOM ≤ length out → Entry
 
--- the same card and memory, but for COM_CRC_ERROR
+-- SPI mode
+abbrev pub spiOf : World → Bool
+spiOf w = inSpi (w .card .core .bus .mode)
+
+-- the same card and memory, but for COM_CRC_ERROR where SD mode keeps it; in SPI mode the whole record
 pub record SameWorld (a b : World) : Type 0 where
   pub core : a .card .core ≡ b .card .core
   pub password : a .card .password ≡ b .card .password
   pub memory : a .memory ≡ b .memory
+  pub line : spiOf a ≡ true → a .card .line ≡ b .card .line
 
 -- the first byte tells the kinds of six bytes apart: 3Fh is R3, 8 is R7, 3 is R6, any other is R1 with its index
 abbrev pub R3-FIRST : ℕ
@@ -76,17 +84,25 @@ abbrev pub unlessNone : Option ℕ → List ℕ → List ℕ
 unlessNone none out = out
 unlessNone (some n) out = masked n out
 
--- of a response with COM_CRC_ERROR among its fields, what is compared: as a caller sees it, by the call, its answer and the buffer
-unfoldable pub hidden : Call → Outcome Reply → List ℕ → List ℕ
-hidden (commandFrame frame before) (done (sent n)) out = cond (eqb n 6) (unlessNone (carrier (getD out 0 0)) out) out
-hidden (commandFrame frame before) (done silent) out = out
-hidden (commandFrame frame before) (done (answered n)) out = out
-hidden (commandFrame frame before) (done over) out = out
-hidden (commandFrame frame before) (refused k) out = out
-hidden (powerUp s p) a out = out
-hidden (blockIn s) a out = out
-hidden (takeBlock before) a out = out
-hidden busyOver a out = out
+-- the R1 of the 0 that chooses SPI mode without its bit 3
+abbrev pub maskedR1 : List ℕ → List ℕ
+maskedR1 out = set out 0 (getD out 0 0 / 16 * 16 + getD out 0 0 % 8)
+
+-- of a response of SD mode with COM_CRC_ERROR among its fields, what is compared: as a caller sees it, by its answer and the buffer
+unfoldable pub hiddenSd : ℕ → List ℕ → List ℕ
+hiddenSd n out = cond (eqb n 6) (unlessNone (carrier (getD out 0 0)) out) (cond (eqb n 1) (maskedR1 out) out)
+
+-- what is compared of a call's buffer; of one that finds the card in SPI mode all of it
+unfoldable pub hidden : Bool → Call → Outcome Reply → List ℕ → List ℕ
+hidden spi (commandFrame frame low before) (done (sent n)) out = cond spi out (hiddenSd n out)
+hidden spi (commandFrame frame low before) (done silent) out = out
+hidden spi (commandFrame frame low before) (done (answered n)) out = out
+hidden spi (commandFrame frame low before) (done over) out = out
+hidden spi (commandFrame frame low before) (refused k) out = out
+hidden spi (powerUp s p) a out = out
+hidden spi (blockIn s) a out = out
+hidden spi (takeBlock before) a out = out
+hidden spi busyOver a out = out
 
 -- a damaged data block is never stored, and 42's not acted on: memory and password stay, and of the record all but the state, so
 -- marks, lock and every kept bit; and the answer is not 010
@@ -96,32 +112,42 @@ pub record NotStored (w : World) (c : Call) : Type 0 where
   pub core : withState (next w c .card .core) Idle ≡ withState (w .card .core) Idle
   pub answer : step w c .answer ≡ done (answered ACCEPTED) → ⊥
 
+-- checks are judged: in SD mode, or with checks on
+abbrev pub Checks : World → Type 0
+Checks w = checking (w .card .core .bus .mode) ≡ true
+
+-- damaged behind its start token, which SD mode does not have
 abbrev pub Unharmed : World → Call → Type 0
-Unharmed w (blockIn s) = DamagedBlock (blockSize (w .card .core)) s → NotStored w (blockIn s)
+Unharmed w (blockIn s) =
+    Checks w → DamagedBlock (packetSize (w .card .core)) (drop (tokenSize (w .card .core .bus .mode)) s) → NotStored w (blockIn s)
 Unharmed w (powerUp s p) = Unit {0}
-Unharmed w (commandFrame frame out) = Unit {0}
+Unharmed w (commandFrame frame low out) = Unit {0}
 Unharmed w (takeBlock out) = Unit {0}
 Unharmed w busyOver = Unit {0}
 
 -- a call in the runs with and without the copies
 pub record Alike (a b : World) (c : Call) : Type 0 where
   pub answer : step a c .answer ≡ step b c .answer
-  pub out : hidden c (step a c .answer) (step a c .out) ≡ hidden c (step b c .answer) (step b c .out)
+  pub out : hidden (spiOf a) c (step a c .answer) (step a c .out) ≡ hidden (spiOf b) c (step b c .answer) (step b c .out)
   pub world : SameWorld (next a c) (next b c)
   pub withCopies : Unharmed a c
   pub without : Unharmed b c
 
--- a copy: silence, its buffer kept, and the same card and memory as in the run without it
-pub record Unheard (a b : World) (frame buffer : List ℕ) : Type 0 where
-  pub answer : step a (commandFrame frame buffer) .answer ≡ done silent
-  pub out : step a (commandFrame frame buffer) .out ≡ buffer
-  pub world : SameWorld (next a (commandFrame frame buffer)) b
+-- what a copy gets: silence, and its buffer is kept; or in SPI mode R1 with COM_CRC_ERROR and the idle bit
+pub data Ignored (w : World) (buffer : List ℕ) (r : Result) : Type 0 where
+  silence : r .answer ≡ done silent → r .out ≡ buffer → Ignored w buffer r
+  error : spiOf w ≡ true → r .answer ≡ done (sent 1) → r .out ≡ errorR1 COM-CRC-ERROR (w .card .core) ++ drop 1 buffer → Ignored w buffer r
 
--- a runs through the history with its copies, b through the calls alone
+-- and the same card and memory as in the run without it
+pub record Unheard (a b : World) (frame : List ℕ) (low : Bool) (buffer : List ℕ) : Type 0 where
+  pub ignored : Ignored a buffer (step a (commandFrame frame low buffer))
+  pub world : SameWorld (next a (commandFrame frame low buffer)) b
+
+-- a runs through the history with its copies, each of which comes where checks are judged, b through the calls alone
 abbrev pub Agree : World → World → List Entry → Type 0
 Agree a b [] = Unit {0}
 Agree a b (call c ∷ h) = Alike a b c × Agree (next a c) (next b c) h
-Agree a b (copy frame out damaged room ∷ h) = Unheard a b frame out × Agree (next a (commandFrame frame out)) b h
+Agree a b (copy frame low out damaged room ∷ h) = Checks a → Unheard a b frame low out × Agree (next a (commandFrame frame low out)) b h
 
 abbrev pub Demand3 : Type 0
 Demand3 = (w : World) → Start w → (h : List Entry) → Agree w w h

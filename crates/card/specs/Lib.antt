@@ -9,6 +9,8 @@ pub mod Checks
 pub mod Execute
 pub mod Effects
 pub mod Frame
+pub mod Spi
+pub mod Receive
 pub mod Soundness
 pub mod Lock
 pub mod Data
@@ -19,4 +21,5 @@ pub mod SendStatus
 pub mod Locked
 pub mod Reading
 pub mod BenchLock
+pub mod BenchSpi
 pub mod Bench

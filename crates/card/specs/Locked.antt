@@ -5,14 +5,15 @@ use mathlib.Core.List.{List, [], _∷_}
 use mathlib.Core.Option.{Option, none, some}
 use Prim.Native.Nat.{ℕ}
 use lib.ListN.{length, replicate}
-use Rattle.wire_packet.specs.Packet.{packetRight, payloadOf}
+use Rattle.card.specs.declared.Source.{Source}
+use Rattle.card.specs.declared.Source.the-variants.{Blocks, WriteProtect, SdStatus, WrittenBlocks, Scr, Csd, Cid}
 use Rattle.card.specs.declared.Open.{Open}
 use Rattle.card.specs.declared.Open.the-variants.{Nothing, Read, Write, Busy}
 use Rattle.card.specs.declared.lock.Operation.{Operation}
 use Rattle.card.specs.declared.lock.Operation.the-variants.{ForceErase, Lock, Unlock, ClearPassword, SetPassword, Invalid}
 use Rattle.card.specs.State.{sinkLocks, locking}
 use Rattle.card.specs.Lock.{operation}
-use Rattle.card.specs.Step.{Call, powerUp, commandFrame, blockIn, takeBlock, busyOver, World, opened, blockRefusal, success, step, next}
+use Rattle.card.specs.Step.{Call, powerUp, commandFrame, blockIn, takeBlock, busyOver, World, Incoming, payload, stop, ignored, opened, blockRefusal, success, arrived, step, next}
 use Rattle.card.specs.History.{Sound, Start}
 
 -- ---- the password
@@ -27,7 +28,7 @@ pub record SameButPassword (a b : World) : Type 0 where
 abbrev pub locks : World → Call → Bool
 locks w (blockIn s) = locking (opened w)
 locks w (powerUp s p) = false
-locks w (commandFrame frame out) = false
+locks w (commandFrame frame low out) = false
 locks w (takeBlock out) = false
 locks w busyOver = false
 
@@ -56,9 +57,18 @@ PasswordUnseen = (a b : World) → Sound a → Sound b → SameButPassword a b �
 -- ---- memory
 
 -- no transfer of memory is open
+abbrev pub sourceShut : Source → Bool
+sourceShut (Blocks multiple address held) = false
+sourceShut (WriteProtect address) = true
+sourceShut SdStatus = true
+sourceShut WrittenBlocks = true
+sourceShut Scr = true
+sourceShut Csd = true
+sourceShut Cid = true
+
 abbrev pub shut : Open → Bool
 shut Nothing = true
-shut (Read s) = false
+shut (Read s) = sourceShut s
 shut (Write s) = sinkLocks s
 shut (Busy s) = true
 
@@ -84,12 +94,17 @@ abbrev pub passes : Option ℕ → Bool
 passes none = true
 passes (some n) = false
 
--- the call is a force erase that succeeds
+-- what came in is a force erase that succeeds, if it is for 42
+abbrev pub erasesBy : World → Incoming → Bool
+erasesBy w (payload right s) = right && (success w s && isForceErase (operation s))
+erasesBy w stop = false
+erasesBy w ignored = false
+
+-- the call is one
 unfoldable pub forceErases : World → Call → Bool
-forceErases w (blockIn s) =
-    passes (blockRefusal w s) && (locking (opened w) && (packetRight s && (success w s && isForceErase (operation (payloadOf s)))))
+forceErases w (blockIn s) = passes (blockRefusal w s) && (locking (opened w) && erasesBy w (arrived w s))
 forceErases w (powerUp s p) = false
-forceErases w (commandFrame frame out) = false
+forceErases w (commandFrame frame low out) = false
 forceErases w (takeBlock out) = false
 forceErases w busyOver = false
 

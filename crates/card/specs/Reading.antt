@@ -1,4 +1,4 @@
--- How a reading is stated: a run of calls with what each shows, as the replay program prints it; or one decoded response.
+-- How a reading is stated: a run of calls with what each shows, as the programs print it; or one decoded response.
 use mathlib.Core.Bool.{Bool, true, false, cond, _&&_, Bool·beq}
 use mathlib.Core.List.{List, [], _∷_, _++_}
 use Prim.Native.Nat.{ℕ, _+_, _/_, _%_, _^_}
@@ -13,6 +13,8 @@ use Rattle.card.specs.declared.Settings.{Settings}
 use Rattle.card.specs.Settings.{capacity}
 use Rattle.card.specs.Soundness.{equal}
 use Rattle.card.specs.Lock.{noPassword}
+use Rattle.card.specs.State.{inSpi}
+use Rattle.card.specs.Spi.{dataResponse}
 use Rattle.card.specs.Data.{ACCEPTED}
 use Rattle.card.specs.Step.{Call, powerUp, commandFrame, blockIn, takeBlock, busyOver, World, world, Reply, silent, sent, answered, over, step, start}
 
@@ -57,7 +59,7 @@ six n = n / 2 ^ 40 % 256 ∷ n / 2 ^ 32 % 256 ∷ n / 2 ^ 24 % 256 ∷ n / 2 ^ 1
 infix 70 _shows_
 -- a frame and its response, and a frame with silence
 abbrev pub frame : ℕ → Call
-frame f = commandFrame (six f) (replicate 17 0)
+frame f = commandFrame (six f) false (replicate 17 0)
 
 abbrev pub _shows_ : ℕ → ℕ → Reading
 f shows r = record { call = frame f; prints = rsp (six r) }
@@ -94,18 +96,18 @@ zeros n = packet (replicate n 0)
 -- bytes are a block where they were taken, and a response elsewhere
 abbrev pub bytesOf : Call → List ℕ → Print
 bytesOf (takeBlock before) s = blk s
-bytesOf (commandFrame f before) s = rsp s
+bytesOf (commandFrame f low before) s = rsp s
 bytesOf (powerUp settings password) s = rsp s
 bytesOf (blockIn b) s = rsp s
 bytesOf busyOver s = rsp s
 
--- the answer is what the line says
-unfoldable pub printed : Call → Outcome Reply → List ℕ → Print
-printed c (refused k) out = ref k
-printed c (done silent) out = none
-printed c (done (sent n)) out = bytesOf c (take n out)
-printed c (done (answered n)) out = cond (eqb n ACCEPTED) ack nak
-printed c (done over) out = none
+-- the answer is what the line says; in SPI mode a data response is a byte
+unfoldable pub printed : Bool → Call → Outcome Reply → List ℕ → Print
+printed spi c (refused k) out = ref k
+printed spi c (done silent) out = none
+printed spi c (done (sent n)) out = bytesOf c (take n out)
+printed spi c (done (answered n)) out = cond spi (rsp (dataResponse n ∷ [])) (cond (eqb n ACCEPTED) ack nak)
+printed spi c (done over) out = none
 
 -- which word it is, and what stands behind it
 abbrev pub wordOf : Print → ℕ
@@ -131,7 +133,7 @@ unfoldable pub plays : World → List Reading → Bool
 plays w [] = true
 plays w (l ∷ ls) =
     let r = step w (l .call) in
-    samePrint (printed (l .call) (r .answer) (r .out)) (l .prints) && plays (r .world) ls
+    samePrint (printed (inSpi (w .card .core .bus .mode)) (l .call) (r .answer) (r .out)) (l .prints) && plays (r .world) ls
 
 pub data Example : Type 0 where
   -- lines from power-up on

@@ -3,6 +3,7 @@ use mathlib.Core.Bool.{Bool, true, false}
 use mathlib.Core.List.{List}
 use Prim.Native.Nat.{ℕ}
 use Rattle.card.specs.declared.Settings.{Settings}
+use Rattle.card.specs.declared.Mode.{Mode}
 use Rattle.card.specs.declared.State.{State}
 use Rattle.card.specs.declared.EraseMark.{EraseMark}
 use Rattle.card.specs.declared.EraseMark.the-variants.{Unset, At}
@@ -118,17 +119,20 @@ withSettings c s = record {
 }
 
 abbrev pub withState : Core → State → Core
-withState c s = withBus c (record { state = s; rca = c .bus .rca; published = c .bus .published; polls = c .bus .polls; app = c .bus .app })
+withState c s = withBus c (record { mode = c .bus .mode; state = s; rca = c .bus .rca; published = c .bus .published; polls = c .bus .polls; app = c .bus .app })
 
 abbrev pub withApp : Core → Bool → Core
-withApp c a = withBus c (record { state = c .bus .state; rca = c .bus .rca; published = c .bus .published; polls = c .bus .polls; app = a })
+withApp c a = withBus c (record { mode = c .bus .mode; state = c .bus .state; rca = c .bus .rca; published = c .bus .published; polls = c .bus .polls; app = a })
 
 -- the address that command 3 publishes is the card's own from then on
 abbrev pub withRca : Core → ℕ → Core
-withRca c a = withBus c (record { state = c .bus .state; rca = a; published = a; polls = c .bus .polls; app = c .bus .app })
+withRca c a = withBus c (record { mode = c .bus .mode; state = c .bus .state; rca = a; published = a; polls = c .bus .polls; app = c .bus .app })
 
 abbrev pub withPolls : Core → ℕ → Core
-withPolls c n = withBus c (record { state = c .bus .state; rca = c .bus .rca; published = c .bus .published; polls = n; app = c .bus .app })
+withPolls c n = withBus c (record { mode = c .bus .mode; state = c .bus .state; rca = c .bus .rca; published = c .bus .published; polls = n; app = c .bus .app })
+
+abbrev pub withMode : Core → Mode → Core
+withMode c m = withBus c (record { mode = m; state = c .bus .state; rca = c .bus .rca; published = c .bus .published; polls = c .bus .polls; app = c .bus .app })
 
 -- ---- erase marks
 

@@ -1,4 +1,5 @@
--- Unsound records (01, "Settings"): the list in 01's order. What the types make impossible is not here; docs/DECISIONS.md names it.
+-- Unsound records (01, "Settings"): the list in 01's order. What the types make impossible is not here; docs/DECISIONS.md names it. Every
+-- condition is one of both bus modes, but for those on bus states and on the RCA, which are SD mode's (02, order 5).
 use mathlib.Core.Bool.{Bool, true, false, cond, not, _&&_, _||_}
 use mathlib.Core.List.{List, [], _∷_}
 use Prim.Native.Nat.{ℕ, _+_, _/_, _%_, _^_}
@@ -13,7 +14,7 @@ use Rattle.card.specs.declared.EraseMark.{EraseMark}
 use Rattle.card.specs.declared.EraseMark.the-variants.{Unset, At}
 use Rattle.card.specs.declared.Core.{Core}
 use Rattle.card.specs.Settings.{BLOCK, PASSWORD, capacity, groups, allowed, csdOf}
-use Rattle.card.specs.State.{ready, ident, stby, ina, number, openOf, transferAddress, sinkAddress}
+use Rattle.card.specs.State.{ready, ident, stby, ina, number, inSpi, openOf, transferAddress, sinkAddress}
 use Rattle.card.specs.Checks.{outside, offBlock}
 
 -- two lists of numbers are the same
@@ -50,9 +51,9 @@ abbrev pub markOutside : ℕ → EraseMark → Bool
 markOutside top Unset = false
 markOutside top (At a) = outside top a
 
--- RCA nonzero in idle, ready, ident or zero in stby..dis; free in ina
-unfoldable pub badRca : ℕ → ℕ → Bool
-badRca state rca = cond (eqb state ina) false (cond (leb stby state) (eqb rca 0) (not (eqb rca 0)))
+-- in SD mode: RCA nonzero in idle, ready, ident or zero in stby..dis; free in ina
+unfoldable pub badRca : Bool → ℕ → ℕ → Bool
+badRca spi state rca = cond spi false (cond (eqb state ina) false (cond (leb stby state) (eqb rca 0) (not (eqb rca 0))))
 
 -- some byte is not zero
 unfoldable pub anyByte : List ℕ → Bool
@@ -63,14 +64,15 @@ anyByte (b ∷ bs) = not (eqb b 0) || anyByte bs
 unfoldable pub markedFrom : List ℕ → ℕ → Bool
 markedFrom marks group = not (eqb (getD marks (group / 8) 0 / 2 ^ (group % 8)) 0) || anyByte (drop (group / 8 + 1) marks)
 
--- the application mark in ready, ident or ina
-unfoldable pub badApp : ℕ → Bool → Bool
-badApp state app = app && (eqb state ready || (eqb state ident || eqb state ina))
+-- in SD mode: the application mark in ready, ident or ina
+unfoldable pub badApp : Bool → ℕ → Bool → Bool
+badApp spi state app = cond spi false (app && (eqb state ready || (eqb state ident || eqb state ina)))
 
 -- the list
 unfoldable pub unsoundTests : Core → List Bool
 unsoundTests c =
     let o = openOf (c .bus .state) in
+    let spi = inSpi (c .bus .mode) in
     badSettings c
     ∷ ltb (c .settings .polls) (c .bus .polls)
     ∷ not (leb 1 (c .length) && leb (c .length) BLOCK)
@@ -80,9 +82,9 @@ unsoundTests c =
     ∷ ltb (writtenMost o (c .settings .blocks)) (c .written)
     ∷ markOutside (capacity (c .settings)) (c .erase .first)
     ∷ markOutside (capacity (c .settings)) (c .erase .second)
-    ∷ badRca (number (c .bus .state)) (c .bus .rca)
+    ∷ badRca spi (number (c .bus .state)) (c .bus .rca)
     ∷ markedFrom (c .marks) (groups (c .settings))
-    ∷ badApp (number (c .bus .state)) (c .bus .app) ∷ []
+    ∷ badApp spi (number (c .bus .state)) (c .bus .app) ∷ []
 
 unfoldable pub anyOf : List Bool → Bool
 anyOf [] = false

@@ -1,13 +1,16 @@
--- The states of 01's table by number, and what a state has open: every question that is asked of a state goes by these.
+-- The states of 01's table by number, what of them counts in SPI mode, and what a state has open: every question that is asked of a
+-- state goes by these.
 use mathlib.Core.Bool.{Bool, true, false, cond, not, _||_}
 use Prim.Native.Nat.{ℕ}
 use lib.Dec.{eqb}
 use Rattle.card.specs.declared.Source.{Source}
-use Rattle.card.specs.declared.Source.the-variants.{Blocks, WriteProtect, SdStatus, WrittenBlocks, Scr}
+use Rattle.card.specs.declared.Source.the-variants.{Blocks, WriteProtect, SdStatus, WrittenBlocks, Scr, Csd, Cid}
 use Rattle.card.specs.declared.Sink.{Sink}
 use Rattle.card.specs.declared.Sink.the-variants.{Single, Multiple, LockUnlock}
 use Rattle.card.specs.declared.State.{State}
 use Rattle.card.specs.declared.State.the-variants.{Idle, Ready, Ident, Stby, Tran, Data, Rcv, Prg, Dis, Ina}
+use Rattle.card.specs.declared.Mode.{Mode}
+use Rattle.card.specs.declared.Mode.the-variants.{Sd, Spi}
 use Rattle.card.specs.declared.Open.{Open}
 use Rattle.card.specs.declared.Open.the-variants.{Nothing, Read, Write, Busy}
 
@@ -61,6 +64,39 @@ arrive n t =
     cond (eqb n idle) Idle (cond (eqb n ready) Ready (cond (eqb n ident) Ident (cond (eqb n stby) Stby (cond (eqb n tran) Tran
     (cond (eqb n «data») t (cond (eqb n rcv) t (cond (eqb n prg) Prg (cond (eqb n dis) Dis Ina))))))))
 
+-- ---- the bus mode (02, order 5)
+
+abbrev pub inSpi : Mode → Bool
+inSpi Sd = false
+inSpi (Spi checks) = true
+
+-- whether CRC7 and CRC16 are judged: always in SD mode
+abbrev pub checking : Mode → Bool
+checking Sd = true
+checking (Spi checks) = checks
+
+-- command 0 turns the checks off, and leaves the mode
+abbrev pub unchecked : Mode → Mode
+unchecked Sd = Sd
+unchecked (Spi checks) = Spi false
+
+-- what counts of a state in SPI mode: idle, an open transfer, busy; every other state is tran there, that is none of these
+abbrev pub spiNumber : State → ℕ
+spiNumber Idle = idle
+spiNumber Ready = tran
+spiNumber Ident = tran
+spiNumber Stby = tran
+spiNumber Tran = tran
+spiNumber (Data s) = «data»
+spiNumber (Rcv s) = rcv
+spiNumber Prg = prg
+spiNumber Dis = prg
+spiNumber Ina = tran
+
+-- the number by which the table of a mode goes
+unfoldable pub numberIn : Bool → State → ℕ
+numberIn spi s = cond spi (spiNumber s) (number s)
+
 -- bit 8: ready for data, except in prg and dis (house)
 abbrev pub readyFor : ℕ → Bool
 readyFor n = not (eqb n prg || eqb n dis)
@@ -103,13 +139,25 @@ sinkLocks (Single address held) = false
 sinkLocks (Multiple address held) = false
 sinkLocks LockUnlock = true
 
+-- the blocks of 25 are awaited
+abbrev pub sinkMultiple : Sink → Bool
+sinkMultiple (Single address held) = false
+sinkMultiple (Multiple address held) = true
+sinkMultiple LockUnlock = false
+
+abbrev pub writingMultiple : Open → Bool
+writingMultiple Nothing = false
+writingMultiple (Read s) = false
+writingMultiple (Write s) = sinkMultiple s
+writingMultiple (Busy s) = false
+
 abbrev pub locking : Open → Bool
 locking Nothing = false
 locking (Read s) = false
 locking (Write s) = sinkLocks s
 locking (Busy s) = false
 
--- ---- the transfer's address; A13, A22, A51 and 42 have none
+-- ---- the transfer's address; A13, A22, A51, 42 and the registers have none
 
 abbrev pub sourceAddress : Source → ℕ
 sourceAddress (Blocks multiple address held) = address
@@ -117,6 +165,8 @@ sourceAddress (WriteProtect address) = address
 sourceAddress SdStatus = 0
 sourceAddress WrittenBlocks = 0
 sourceAddress Scr = 0
+sourceAddress Csd = 0
+sourceAddress Cid = 0
 
 abbrev pub sinkAddress : Sink → ℕ
 sinkAddress (Single address held) = address

@@ -30,6 +30,9 @@ pub enum Command {
     SetWrBlkEraseCount,
     SetClrCardDetect,
     SdSendOpCond,
+    // SPI mode alone: 58, 59
+    ReadOcr,
+    CrcOnOff,
     // no row of the table
     Unknown,
 }

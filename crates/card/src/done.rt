@@ -8,10 +8,11 @@ pub enum Response {
     // R1 and R6 show the status, which the layer of the bus mode adds
     R1,
     R6,
-    // R2 with a register of the record
+    // a register of the record: in SD mode an R2, in SPI mode an R1, and the register is the block that follows
     Cid,
     Csd,
     R3(u32),
+    // voltage 0 where it is not accepted
     R7 { voltage: u8, pattern: u8 },
 }
 

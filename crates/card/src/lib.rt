@@ -37,6 +37,9 @@ pub enum Source {
     SdStatus,
     WrittenBlocks,
     Scr,
+    // 9 and 10 in SPI mode: a register
+    Csd,
+    Cid,
 }
 
 // What a write transfer takes in: the block of 24, the blocks of 25, the block of 42. A held one is silent until it is ended.
@@ -69,7 +72,16 @@ pub enum Open {
     Busy(State),
 }
 
+// The bus mode. In SPI mode the checks of frames and blocks are on or off.
+pub enum Mode {
+    Sd,
+    Spi { checks: bool },
+}
+
+// In SPI mode no bus state is observed. What counts of it there: idle; data and rcv, a transfer is open; prg and dis, busy; every
+// other state is none of these.
 pub struct Bus {
+    pub mode: Mode,
     pub state: State,
     // the card's address, and the last one that it published
     pub rca: u16,

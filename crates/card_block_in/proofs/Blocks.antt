@@ -5,9 +5,10 @@ use mathlib.Core.List.{List}
 use Prim.Native.Nat.{ℕ, _+_, _-_, _≤_}
 use native.Mathlib.Omega.{arith}
 use borrow.Author.Tests.{le-leb}
-use lib.ListN.{length}
-use lib.Seq.{length-take-le}
-use Rattle.codec.specs.Answer.{done, refused, WRONG, why, part}
+use lib.Dec.{eqb}
+use lib.ListN.{length, take, drop, length-drop}
+use lib.Seq.{length-take-le, take-length}
+use Rattle.codec.specs.Answer.{done, refused, WRONG, why}
 use Rattle.wire_packet.specs.Packet.{CHECK, payloadOf, packetRight, decodePacket}
 use Rattle.card.specs.declared.Core.{Core}
 use Rattle.card.specs.declared.done.Effect.the-variants.{Store}
@@ -19,37 +20,30 @@ use Rattle.card.specs.Effects.{Stored, stored, over, affected}
 use Rattle.card_effect.specs.Apply.{reaches}
 use Rattle.card_block_in.specs.Stores.{Decodes}
 
-module _ (p : List ℕ) (d : Decodes p) where
-  judged : decodePacket p ≡ cond (packetRight p) (done (payloadOf p)) (refused WRONG)
-  unfolding decodePacket
-  judged = rw (le-leb 3 (length p) (d .low), le-leb (length p) 514 (d .high))
+-- the decoder's number is 0 exactly if the check is the payload's
+pub judged : (p : List ℕ) → Decodes p → eqb (why (decodePacket p)) 0 ≡ packetRight p
+unfolding decodePacket
+judged p d = rw (le-leb 3 (length p) (d .low), le-leb (length p) 514 (d .high)) (go (packetRight p))
+  where
+    go : (b : Bool) → eqb (why (cond b (done (payloadOf p)) (refused WRONG))) 0 ≡ b
+    go true = refl
+    go false = refl
 
-  -- the decoder's number is 0 exactly if the check is the payload's
-  pub right : why (decodePacket p) ≡ 0 → packetRight p ≡ true
-  right e = go (packetRight p) (sym (ap why judged) ∙ e)
-    where
-      go : (b : Bool) → why (cond b (done (payloadOf p)) (refused WRONG)) ≡ 0 → b ≡ true
-      go true e = refl
-      go false e = absurd (omega arith)
+-- the payload where it lies in a block
+module _ (s : List ℕ) (a : ℕ) (d : Decodes (drop a s)) where
+  pub room : a + (1 + CHECK) ≤ length s
+  room = omega (arith, d .low, length-drop a s)
 
-  pub wrong : (why (decodePacket p) ≡ 0 → ⊥) → packetRight p ≡ false
-  wrong n = go (packetRight p) (λ e. n (ap why judged ∙ e))
-    where
-      go : (b : Bool) → (why (cond b (done (payloadOf p)) (refused WRONG)) ≡ 0 → ⊥) → b ≡ false
-      go true n = absurd (n refl)
-      go false n = refl
+  pub rest : take (length s - a) (drop a s) ≡ drop a s
+  rest = ap (λ (n : ℕ). take n (drop a s)) (sym (length-drop a s)) ∙ take-length (drop a s)
 
-  pub payload : why (decodePacket p) ≡ 0 → part (decodePacket p) ≡ payloadOf p
-  payload e = ap part judged ∙ rw (right e)
-
--- a block of 24 or 25
-module _ (p : List ℕ) (long : length p ≡ BLOCK + CHECK) where
-  pub decodes : Decodes p
-  decodes = record { low = omega arith; high = omega arith }
-
-  pub length-payload : length (payloadOf p) ≡ BLOCK
+  pub lies : take (length s - CHECK - a) (drop a s) ≡ payloadOf (drop a s)
   unfolding payloadOf
-  length-payload = let k : length p - 2 ≡ BLOCK = omega arith in length-take-le (length p - 2) p (omega arith) ∙ k
+  lies = let k : length s - CHECK - a ≡ length (drop a s) - CHECK = omega (arith, d .low, length-drop a s) in ap (λ (n : ℕ). take n (drop a s)) k
+
+pub length-payload : (p : List ℕ) → length p ≡ BLOCK + CHECK → length (payloadOf p) ≡ BLOCK
+unfolding payloadOf
+length-payload p long = let k : length p - 2 ≡ BLOCK = omega arith in length-take-le (length p - 2) p (omega arith) ∙ k
 
 -- a store that reaches no further than memory
 pub stored-in : (all : Bool) (a : ℕ) (s memory marks memory' marks' : List ℕ) → a + length s ≤ length memory

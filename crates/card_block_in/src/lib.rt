@@ -1,46 +1,39 @@
-// A data block in, payload and check. The record by value and back; memory is lent.
+// A data block in. The record by value and back; memory is lent.
 ghost use mathlib.Core.Path.{_≡_};
-ghost use mathlib.Core.Bool.{cond};
 ghost use mathlib.Core.List.{[]};
-ghost use Prim.Native.Nat.{_+_};
-ghost use Rattle.wire_packet.specs.Packet.{CHECK};
-ghost use Rattle.card.specs.Settings.{BLOCK};
 ghost use Rattle.card.specs.Step.{blockIn};
 ghost use Rattle.card_call.specs.Seen.{returned, stepped};
 
-mod lock;
+mod enter;
 mod turn;
 
 use card::Card;
-use card::size::BLOCK;
+use card::answer::Answer;
+use card::command::Command;
 use card_call::Stepped;
+use card_call::answered;
 use card_call::refused;
 use card_refuse::refusal;
 use card_refuse::rows;
-use wire_packet::CHECK;
-
-// The bytes of a block: for 42 its payload has the set length.
-fn size(locks: bool, length: u16) -> usize
-    ensures { λ r. ⌜ r ≡ cond locks length BLOCK + CHECK ⌝ }
-{
-    if locks {
-        return length as usize + CHECK;
-    }
-    BLOCK as usize + CHECK
-}
+use card_start::moves::moved;
+use card_state::checking;
+use card_token::Arrived;
+use card_token::incoming;
+use card_token::other_block;
+use card_token::token_size;
 
 pub fn block_in(card: Card, block: &[u8], memory: &mut [u8]) -> Stepped
     ensures { λ r. ⌜ returned r (now (memory .exit)) [] ≡ stepped card (now (memory .entry)) (blockIn (now (block .entry))) ⌝ }
 {
     let bus = card.core.bus;
     let state = bus.state;
+    let mode = bus.mode;
     let open = card_state::open(state);
-    let locks = card_state::locking(open);
     let r = rows(
         card.core,
         card.password.length,
         memory.len(),
-        block.len() != size(locks, card.core.length),
+        other_block(mode, open, card.core.length, block.len()),
         false,
         !card_state::writing(open),
     );
@@ -48,8 +41,23 @@ pub fn block_in(card: Card, block: &[u8], memory: &mut [u8]) -> Stepped
     if n != 0 {
         return refused(card, n);
     }
-    if locks {
-        return lock::lock_into(card, block, memory);
+    let came = incoming(mode, open, block);
+    match came {
+        Arrived::Packet => enter::enter(
+            card,
+            open,
+            checking(mode),
+            token_size(mode),
+            block,
+            memory,
+        ),
+        Arrived::Stop => {
+            let next = moved(Command::StopTransmission, card.core);
+            answered(card, next, Answer::Silence)
+        }
+        Arrived::Ignored => Stepped {
+            answer: Answer::Silence,
+            card: card,
+        },
     }
-    turn::write_into(card, block, memory, turn::open_write(open))
 }

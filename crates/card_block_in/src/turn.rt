@@ -1,10 +1,9 @@
-// A data block into the open transfer of 24 or 25: its check, the place, and the store.
+// A payload into the open transfer of 24 or 25: the place, and the store.
 ghost use mathlib.Core.Path.{_≡_};
 ghost use mathlib.Core.List.{[]};
 ghost use mathlib.Core.Bool.{true, false, cond};
 ghost use Prim.Native.Nat.{_+_, _*_, _<_};
 ghost use lib.ListN.{length};
-ghost use Rattle.wire_packet.specs.Packet.{CHECK};
 ghost use Rattle.card.specs.declared.State.the-variants.{Tran, Rcv, Prg};
 ghost use Rattle.card.specs.Settings.{BLOCK, MOST};
 ghost use Rattle.card.specs.State.{sink};
@@ -12,7 +11,7 @@ ghost use Rattle.card.specs.Data.{writeInto};
 ghost use Rattle.card_call.specs.Seen.{returned, turned};
 ghost use Rattle.card.specs.Checks.{outside};
 ghost use Rattle.card.specs.Status.{OUT-OF-RANGE, WP-VIOLATION};
-ghost use Rattle.card_block_in.specs.Stores.{Stores, parts, placed};
+ghost use Rattle.card_block_in.specs.Stores.{Stores, parts};
 use card::Card;
 use card::Open;
 use card::Sink;
@@ -110,13 +109,28 @@ fn accepted(multiple: bool, address: u32) -> State
     State::Prg
 }
 
-// The payload of a right packet, at its place.
-fn place(card: Card, payload: &[u8], memory: &mut [u8], t: Transfer) -> Stepped
+pub(crate) fn write_into(
+    card: Card,
+    right: bool,
+    payload: &[u8],
+    memory: &mut [u8],
+    t: Transfer,
+) -> Stepped
     requires { ⌜ Stores (card .core) (t .address) (now memory) × (length (now payload) ≡ BLOCK) ⌝ }
     ensures { λ r.
         ⌜ returned r (now (memory .exit)) []
-        ≡ turned card (now (memory .entry)) [] (placed (t .multiple) (t .address) (card .core) (now (payload .entry))) ⌝ }
+        ≡ turned card (now (memory .entry)) [] (writeInto (t .multiple) (t .address) (t .held) right (card .core) (now (payload .entry))) ⌝ }
 {
+    if t.held {
+        return Stepped {
+            answer: Answer::Silence,
+            card: card,
+        };
+    }
+    if !right {
+        let next = with_state(card.core, rejected(t.multiple, t.address));
+        return answered(card, next, Answer::Rejected);
+    }
     let all = whole(card.core.settings.permanent, card.core.settings.temporary);
     let mut marks = card.core.marks;
     let wp = guarded(all, &marks, t.address);
@@ -130,22 +144,4 @@ fn place(card: Card, payload: &[u8], memory: &mut [u8], t: Transfer) -> Stepped
     let counted = with_written(card.core, card.core.written + 1);
     let next = with_state(counted, accepted(t.multiple, t.address));
     answered(card, next, Answer::Accepted)
-}
-
-pub(crate) fn write_into(card: Card, block: &[u8], memory: &mut [u8], t: Transfer) -> Stepped
-    requires { ⌜ Stores (card .core) (t .address) (now memory) × (length (now block) ≡ BLOCK + CHECK) ⌝ }
-    ensures { λ r.
-        ⌜ returned r (now (memory .exit)) []
-        ≡ turned card (now (memory .entry)) [] (writeInto (t .multiple) (t .address) (t .held) (card .core) (now (block .entry))) ⌝ }
-{
-    if t.held {
-        return answered(card, card.core, Answer::Silence);
-    }
-    let mut number: u8 = 0;
-    let payload = wire_packet::decode(block, &mut number);
-    if number != 0 {
-        let next = with_state(card.core, rejected(t.multiple, t.address));
-        return answered(card, next, Answer::Rejected);
-    }
-    place(card, payload, memory, t)
 }

@@ -14,8 +14,8 @@ use Rattle.card.specs.declared.done.Flag.the-variants.{Keep}
 use Rattle.card.specs.Record.{withMarks}
 use Rattle.card.specs.Protect.{whole}
 use Rattle.card.specs.Effects.{Stored, stored, over, affected}
-use Rattle.card.specs.Frame.{Turn, token, finished, quiet}
-use Rattle.card.specs.Data.{said, ACCEPTED, REJECTED}
+use Rattle.card.specs.Frame.{Turn, token, finished, quiet, said}
+use Rattle.card.specs.Data.{ACCEPTED, REJECTED}
 use Rattle.card.specs.Step.{wire, replyOf, flagged, show}
 use Rattle.card_call.specs.declared.Stepped.{Stepped}
 use Rattle.card_call.specs.Seen.{Seen, returned, turned, turnedWith}

@@ -19,7 +19,8 @@ use Rattle.card.specs.Settings.{BLOCK, capacity}
 use Rattle.card.specs.Record.{withMarks}
 use Rattle.card.specs.Protect.{whole}
 use Rattle.card.specs.Effects.{Stored, stored, affected}
-use Rattle.card.specs.Frame.{Turn, receive}
+use Rattle.card.specs.Frame.{Turn}
+use Rattle.card.specs.Receive.{receive}
 use Rattle.card.specs.Step.{world, commandFrame, answer, replyOf, wire, flagged, show, applies, FRAME, ROOM, frameRefusal, framed, step}
 use Rattle.card.proofs.Facts.{facts-sound}
 use Rattle.card.proofs.Extent.{Inside}
@@ -28,8 +29,8 @@ use Rattle.card_call.specs.declared.Stepped.{Stepped}
 use Rattle.card_call.specs.Seen.{Seen, returned, seen, stepped}
 use Rattle.card_respond.specs.Sent.{message, Responded, responded, onLine}
 use Rattle.card_effect.specs.Apply.{reaches}
-use Rattle.card_finish.specs.declared.Turned.{Turned}
-use Rattle.card_finish.specs.Turned.{turned}
+use Rattle.card_turn.specs.declared.Turned.{Turned}
+use Rattle.card_turn.specs.Turned.{turned}
 use Rattle.card_refuse.proofs.Passed.{passed, sound-record}
 use Rattle.card_command.specs.Shows.{Shows}
 
@@ -41,15 +42,15 @@ inside-reaches s (Protect group value) memory h l = refl
 inside-reaches s ForceErase memory h l = refl
 
 -- where no row applies, what the frame comes to can be shown
-module _ (card : Card) (frame memory out : List ℕ) (spared : frameRefusal (world card memory) frame out ≡ none) where
-  pub shows : (t : Turned) → turned t ≡ receive (card .core) frame → Shows (card .core .settings) (t .effect) memory out
+module _ (card : Card) (low : Bool) (frame memory out : List ℕ) (spared : frameRefusal (world card memory) frame out ≡ none) where
+  pub shows : (t : Turned) → turned t ≡ receive (card .core) low frame → Shows (card .core .settings) (t .effect) memory out
   unfolding applies
   shows t e =
       let row = passed (1 ∷ 2 ∷ 3 ∷ 4 ∷ []) _ spared in
       let whole = eqb-true (length memory) (capacity (card .core .settings)) (not-false _ (row 2)) in
       let inside : Inside (card .core .settings) (t .effect) [] =
       subst (λ (x : Turn). Inside (card .core .settings) (x .effect) (x .payload)) (sym e)
-      (receive-lasting (card .core) frame (facts-sound (card .core) (sound-record (card .core) (card .password .length) (row 1))) .inside) in
+      (receive-lasting (card .core) (facts-sound (card .core) (sound-record (card .core) (card .password .length) (row 1))) low frame .inside) in
       record { room = ltb-false (length out) ROOM (row 3); inside = inside-reaches (card .core .settings) (t .effect) memory inside whole }
 
 -- a call that was not refused, by its parts

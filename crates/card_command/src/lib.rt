@@ -2,19 +2,19 @@
 ghost use mathlib.Core.Path.{_≡_};
 ghost use Rattle.card.specs.Step.{world, show, commandFrame};
 ghost use Rattle.card_call.specs.Seen.{returned, seen, stepped};
-ghost use Rattle.card_finish.specs.Turned.{turned};
+ghost use Rattle.card_turn.specs.Turned.{turned};
 ghost use Rattle.card_command.specs.Shows.{Shows};
 use card::Card;
 use card_call::Stepped;
 use card_call::refused;
 use card_effect::apply;
-use card_finish::Turned;
-use card_finish::kept;
 use card_protect::whole;
 use card_receive::receive;
 use card_refuse::refusal;
 use card_refuse::rows;
 use card_respond::respond;
+use card_turn::Turned;
+use card_turn::kept;
 
 // a frame, and the room for any response
 const FRAME: usize = 6;
@@ -44,10 +44,17 @@ fn show(card: Card, turn: Turned, memory: &mut [u8], out: &mut [u8]) -> Stepped
     }
 }
 
-pub fn command_frame(card: Card, frame: &[u8], memory: &mut [u8], out: &mut [u8]) -> Stepped
+// `low`: chip select is low.
+pub fn command_frame(
+    card: Card,
+    frame: &[u8],
+    low: bool,
+    memory: &mut [u8],
+    out: &mut [u8],
+) -> Stepped
     ensures { λ r.
         ⌜ returned r (now (memory .exit)) (now (out .exit))
-        ≡ stepped card (now (memory .entry)) (commandFrame (now (frame .entry)) (now (out .entry))) ⌝ }
+        ≡ stepped card (now (memory .entry)) (commandFrame (now (frame .entry)) low (now (out .entry))) ⌝ }
 {
     let r = rows(
         card.core,
@@ -61,5 +68,5 @@ pub fn command_frame(card: Card, frame: &[u8], memory: &mut [u8], out: &mut [u8]
     if n != 0 {
         return refused(card, n);
     }
-    show(card, receive(card.core, frame), memory, out)
+    show(card, receive(card.core, low, frame), memory, out)
 }

@@ -1,6 +1,6 @@
 -- What a command that ran leaves, and what each verdict shows.
 use mathlib.Core.Path.{_≡_, refl, ap, _∙_}
-use mathlib.Core.Bool.{Bool, false}
+use mathlib.Core.Bool.{Bool, true, false}
 use mathlib.Core.List.{[]}
 use Prim.Native.Nat.{ℕ}
 use Rattle.card.specs.declared.Core.{Core}
@@ -16,9 +16,12 @@ use Rattle.card.specs.State.{number}
 use Rattle.card.specs.Status.{ILLEGAL-COMMAND}
 use Rattle.card.specs.Table.{row, setsApp}
 use Rattle.card.specs.Execute.{raise}
-use Rattle.card.specs.Frame.{Message, Turn, quiet, wordOf, messageOf, cleared, finish, showSd}
+use Rattle.card.specs.Frame.{Message, Turn, quiet, wordOf, messageOf, cleared, finish}
+use Rattle.card.specs.Receive.{chooses, chosen, shownSd, showSd}
+use Rattle.card.specs.Spi.{finishSpi}
+use Rattle.card_respond.specs.declared.Message.the-variants.{Sd}
 use Rattle.card_respond.specs.Sent.{messageBy}
-use Rattle.card_finish.specs.Turned.{turned}
+use Rattle.card_turn.specs.Turned.{turned}
 
 module _ (k : Command) (state : ℕ) (d : Done) where
   -- what is cleared and marked leaves address and registers
@@ -35,10 +38,10 @@ module _ (k : Command) (state : ℕ) (d : Done) where
 
   pub finished : (next : Core) (i w : ℕ) → next ≡ withApp (cleared (d .response) (d .core)) (setsApp (row k .kind)) → i ≡ row k .index
       → w ≡ wordOf k state d
-      → turned (record { core = next; flag = Clear; message = record { response = d .response; index = i; word = w }; effect = d .effect })
+      → turned (record { core = next; flag = Clear; message = Sd (d .response) i w; effect = d .effect })
       ≡ finish k state d
   finished next i w p q s =
-      (λ j. turned (record { core = p j; flag = Clear; message = record { response = d .response; index = q j; word = s j }; effect = d .effect }))
+      (λ j. turned (record { core = p j; flag = Clear; message = Sd (d .response) (q j) (s j); effect = d .effect }))
       ∙ ap {B = Turn}
       (λ (m : Message). record {
         core = withApp (cleared (d .response) (d .core)) (setsApp (row k .kind));
@@ -49,17 +52,28 @@ module _ (k : Command) (state : ℕ) (d : Done) where
       })
       (message-kept (setsApp (row k .kind)) (d .response))
 
+-- ---- the mode that command 0 chooses
+
+module _ (c : Core) (low : Bool) (k : Command) (d : Done) where
+  pub chooses-spi : chooses low k ≡ true → finishSpi (c .kept) k (chosen d) ≡ shownSd c low k d
+  unfolding shownSd
+  chooses-spi e = rw e
+
+  pub stays-sd : chooses low k ≡ false → finish k (number (c .bus .state)) d ≡ shownSd c low k d
+  unfolding shownSd
+  stays-sd e = rw e
+
 -- ---- by the verdict
 
-module _ (c : Core) (j : Judged) where
-  pub not-allowed : j .verdict ≡ NotAllowed → showSd c j ≡ quiet (withApp (raise c ILLEGAL-COMMAND) false) Keep
+module _ (c : Core) (low : Bool) (j : Judged) where
+  pub not-allowed : j .verdict ≡ NotAllowed → quiet (withApp (raise c ILLEGAL-COMMAND) false) Keep ≡ showSd c low j
   unfolding showSd
   not-allowed e = rw e
 
-  pub other-card : j .verdict ≡ OtherCard → showSd c j ≡ quiet (withApp c false) Keep
+  pub other-card : j .verdict ≡ OtherCard → quiet (withApp c false) Keep ≡ showSd c low j
   unfolding showSd
   other-card e = rw e
 
-  pub ran : (n : ℕ) → n ≡ number (c .bus .state) → j .verdict ≡ Ran → finish (j .command) n (j .done) ≡ showSd c j
+  pub ran : j .verdict ≡ Ran → shownSd c low (j .command) (j .done) ≡ showSd c low j
   unfolding showSd
-  ran n h e = ap (λ (m : ℕ). finish (j .command) m (j .done)) h ∙ rw e
+  ran e = rw e

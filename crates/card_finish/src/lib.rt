@@ -1,16 +1,12 @@
 // SD mode: what a frame shows, and what a command that ran clears.
 ghost use mathlib.Core.Path.{_≡_};
-ghost use Rattle.card.specs.Record.{withMarks};
-ghost use Rattle.card.specs.Frame.{quiet, cleared, finish, showSd};
-ghost use Rattle.card.specs.Step.{flagged};
-ghost use Rattle.card_finish.specs.Turned.{turned};
-use card::Card;
+ghost use Rattle.card.specs.Frame.{cleared, finish};
+ghost use Rattle.card.specs.Receive.{chosen, shownSd, showSd};
+ghost use Rattle.card_turn.specs.Turned.{turned};
 use card::Core;
-use card::Line;
-use card::Password;
+use card::Mode;
 use card::command::Command;
 use card::done::Done;
-use card::done::Effect;
 use card::done::Flag;
 use card::done::Judged;
 use card::done::Response;
@@ -18,35 +14,14 @@ use card::done::Verdict;
 use card_record::raise;
 use card_record::with_app;
 use card_record::with_kept;
-use card_record::with_marks;
+use card_record::with_mode;
 use card_respond::Message;
+use card_spi::finish_spi;
 use card_status::no_bits;
 use card_status::without_illegal;
 use card_status::word::status;
-
-pub struct Turned {
-    pub core: Core,
-    pub flag: Flag,
-    pub message: Message,
-    pub effect: Effect,
-}
-
-// Silence; memory and marks stay.
-pub fn quiet(c: Core, flag: Flag) -> Turned
-    ensures { λ r. ⌜ turned r ≡ quiet c flag ⌝ }
-{
-    let message = Message {
-        response: Response::Nothing,
-        index: 0,
-        word: 0,
-    };
-    Turned {
-        core: c,
-        flag: flag,
-        message: message,
-        effect: Effect::Nothing,
-    }
-}
+use card_turn::Turned;
+use card_turn::quiet;
 
 // R1 carries every bit that is kept, and clears it; the others clear ILLEGAL_COMMAND alone.
 fn cleared(response: Response, c: Core) -> Core
@@ -76,7 +51,7 @@ pub fn finish(command: Command, state: u8, done: Done) -> Turned
     let kept = done.core.kept;
     let response = done.response;
     let effect = done.effect;
-    let message = Message {
+    let message = Message::Sd {
         response: response,
         index: card_table::index(command),
         word: status(
@@ -94,8 +69,35 @@ pub fn finish(command: Command, state: u8, done: Done) -> Turned
     }
 }
 
-pub fn show_sd(c: Core, judged: Judged) -> Turned
-    ensures { λ r. ⌜ turned r ≡ showSd c judged ⌝ }
+// The mode that command 0 chooses with chip select low.
+fn chosen(done: Done) -> Done
+    ensures { λ r. ⌜ r ≡ chosen done ⌝ }
+{
+    let core = done.core;
+    let response = done.response;
+    let effect = done.effect;
+    Done {
+        core: with_mode(core, Mode::Spi { checks: false }),
+        response: response,
+        effect: effect,
+    }
+}
+
+// A command that ran on the record c, in the mode that it leaves.
+fn shown_sd(c: Core, low: bool, command: Command, done: Done) -> Turned
+    ensures { λ r. ⌜ turned r ≡ shownSd c low command done ⌝ }
+{
+    if low & (card_table::index(command) == 0) {
+        return finish_spi(c, command, chosen(done));
+    }
+    let bus = c.bus;
+    let state = bus.state;
+    finish(command, card_state::number(state), done)
+}
+
+// `low`: chip select is low.
+pub fn show_sd(c: Core, low: bool, judged: Judged) -> Turned
+    ensures { λ r. ⌜ turned r ≡ showSd c low judged ⌝ }
 {
     let verdict = judged.verdict;
     match verdict {
@@ -105,36 +107,9 @@ pub fn show_sd(c: Core, judged: Judged) -> Turned
         ),
         Verdict::OtherCard => quiet(with_app(c, false), Flag::Keep),
         Verdict::Ran => {
-            let bus = c.bus;
-            let state = bus.state;
             let command = judged.command;
             let done = judged.done;
-            finish(command, card_state::number(state), done)
+            shown_sd(c, low, command, done)
         }
-    }
-}
-
-fn flagged(f: Flag, line: Line) -> Line
-    ensures { λ r. ⌜ r ≡ flagged f line ⌝ }
-{
-    match f {
-        Flag::Keep => line,
-        Flag::Set => Line {
-            com_crc_error: true,
-        },
-        Flag::Clear => Line {
-            com_crc_error: false,
-        },
-    }
-}
-
-// The record that a frame leaves, with the marks as its effect left them; no frame changes the password.
-pub fn kept(next: Core, password: Password, marks: [u8; 256], flag: Flag, line: Line) -> Card
-    ensures { λ r. ⌜ r ≡ record { core = withMarks next marks; password = password; line = flagged flag line } ⌝ }
-{
-    Card {
-        core: with_marks(next, marks),
-        password: password,
-        line: flagged(flag, line),
     }
 }

@@ -2,7 +2,7 @@
 use mathlib.Core.Path.{_≡_, ap}
 use mathlib.Core.Bool.{Bool, true, false, cond, _&&_, Bool·beq}
 use mathlib.Core.List.{List}
-use Prim.Native.Nat.{ℕ, _+_, _/_, _^_, _≤_, _<_}
+use Prim.Native.Nat.{ℕ, _+_, _≤_, _<_}
 use native.Mathlib.Numerals.{add-one}
 use lib.Dec.{eqb}
 use lib.ListN.{length, drop, getD, drop-of-length-le}
@@ -10,7 +10,7 @@ use lib.Seq.{drop-cons}
 use Rattle.card.specs.declared.Bus.{Bus}
 use Rattle.card.specs.declared.command.Command.{Command}
 use Rattle.card.specs.declared.command.Command.the-variants.{Unknown}
-use Rattle.card.specs.Table.{isApplication, takes, fits, find, commands, commandOf}
+use Rattle.card.specs.Table.{isApplication, takes, fits, find, own, commands, commandOf}
 use Rattle.card_table.specs.declared.Columns.{Columns}
 use Rattle.card_table.specs.Packed.{packedRow}
 
@@ -22,7 +22,7 @@ fits-by k r application index own e =
     ap (λ (x : Columns). eqb (x .index) index && (Bool·beq (isApplication (x .kind)) application && takes (x .rca) own)) e
 
 -- the A rows first after 55
-pub found-by : (b : Bus) (index argument : ℕ) (mine : Bool) (plain : Command) → mine ≡ eqb (argument / 2 ^ 16) (b .rca)
+pub found-by : (b : Bus) (index argument : ℕ) (mine : Bool) (plain : Command) → mine ≡ own b argument
     → plain ≡ find commands false index mine Unknown → cond (b .app) (find commands true index mine plain) plain ≡ commandOf b index argument
 unfolding commandOf
 found-by b index argument mine plain p q = rw (q, p)

@@ -1,12 +1,11 @@
 // The command that the card takes an index for: the first row that fits.
 ghost use mathlib.Core.Path.{_≡_};
-ghost use Prim.Native.Nat.{_/_, _^_};
-ghost use lib.Dec.{eqb};
-ghost use Rattle.card.specs.Table.{commands, isApplication, takes, fits, find, commandOf};
+ghost use Rattle.card.specs.Table.{commands, isApplication, takes, fits, find, own, commandOf};
 use card::Bus;
 use card::command::Command;
 use card::command::Kind;
 use card::command::Rca;
+use card_state::in_spi;
 use card_table::row;
 
 fn is_application(kind: Kind) -> bool
@@ -45,7 +44,7 @@ fn fits(command: Command, application: bool, index: u8, own: bool) -> bool
     false
 }
 
-const COMMANDS: usize = 30;
+const COMMANDS: usize = 32;
 
 // The first command with the index, or another.
 fn find(application: bool, index: u8, own: bool, other: Command) -> Command
@@ -82,6 +81,8 @@ fn find(application: bool, index: u8, own: bool, other: Command) -> Command
         Command::SetWrBlkEraseCount,
         Command::SetClrCardDetect,
         Command::SdSendOpCond,
+        Command::ReadOcr,
+        Command::CrcOnOff,
     ];
     let mut i = 0;
     while i < COMMANDS {
@@ -94,18 +95,19 @@ fn find(application: bool, index: u8, own: bool, other: Command) -> Command
     other
 }
 
-// The argument's RCA is the card's.
-pub fn own(rca: u16, argument: u32) -> bool
-    ensures { λ r. ⌜ r ≡ eqb (argument / 2 ^ 16) rca ⌝ }
+// The argument's RCA is the card's; in SPI mode it is not compared.
+pub fn own(bus: Bus, argument: u32) -> bool
+    ensures { λ r. ⌜ r ≡ own bus argument ⌝ }
 {
-    (argument >> 16) == (rca as u32)
+    let mode = bus.mode;
+    in_spi(mode) | ((argument >> 16) == (bus.rca as u32))
 }
 
 // After 55 an index with an A row is that command, and others stay as they are.
 pub fn command_of(bus: Bus, index: u8, argument: u32) -> Command
     ensures { λ r. ⌜ r ≡ commandOf bus index argument ⌝ }
 {
-    let mine = own(bus.rca, argument);
+    let mine = own(bus, argument);
     let plain = find(false, index, mine, Command::Unknown);
     if bus.app {
         return find(true, index, mine, plain);

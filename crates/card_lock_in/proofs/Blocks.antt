@@ -19,8 +19,8 @@ use Rattle.card.specs.Protect.{whole}
 use Rattle.card.specs.Execute.{raise}
 use Rattle.card.specs.Effects.{Stored, stored, affected}
 use Rattle.card.specs.Lock.{operation}
-use Rattle.card.specs.Frame.{Turn, token}
-use Rattle.card.specs.Data.{ACCEPTED, said, acted, effectOf, operate}
+use Rattle.card.specs.Frame.{Turn, token, said}
+use Rattle.card.specs.Data.{ACCEPTED, acted, effectOf, operate}
 use Rattle.card_call.specs.declared.Stepped.{Stepped}
 use Rattle.card_call.specs.Seen.{Seen, returned, turnedWith}
 use Rattle.card_call.proofs.Turns as Turns

@@ -1,2 +1,2 @@
--- What a block of 42 whose check is right comes to.
+-- What a block of 42 comes to.
 pub mod Operates

@@ -1,9 +1,9 @@
-// A block of 42 whose check is right: its operation, or LOCK_UNLOCK_FAILED. The record by value and back; memory is lent.
+// A block of 42: 101 for a wrong check; else its operation, or LOCK_UNLOCK_FAILED. The record by value and back; memory is lent.
 ghost use mathlib.Core.Path.{_≡_};
 ghost use mathlib.Core.List.{[]};
 ghost use Rattle.card.specs.Data.{acted, effectOf};
 ghost use Rattle.card_call.specs.Seen.{returned};
-ghost use Rattle.card_lock_in.specs.Operates.{lockOf, performed, operated};
+ghost use Rattle.card_lock_in.specs.Operates.{lockOf, performed, operated, lockTurned};
 use card::Card;
 use card::Core;
 use card::Password;
@@ -81,7 +81,8 @@ fn perform(card: Card, o: Operation, password: Password, memory: &mut [u8]) -> S
     answered_with(card, with_marks(next, marks), password, Answer::Accepted)
 }
 
-pub fn operate(card: Card, payload: &[u8], memory: &mut [u8]) -> Stepped
+// A payload whose check is right.
+fn operate(card: Card, payload: &[u8], memory: &mut [u8]) -> Stepped
     ensures { λ r. ⌜ returned r (now (memory .exit)) [] ≡ operated card (now (payload .entry)) (now (memory .entry)) ⌝ }
 {
     let password = card.password;
@@ -97,4 +98,13 @@ pub fn operate(card: Card, payload: &[u8], memory: &mut [u8]) -> Stepped
     }
     let failed = with_state(raise(card.core, LOCK_UNLOCK_FAILED), State::Prg);
     answered(card, failed, Answer::Accepted)
+}
+
+pub fn lock_into(card: Card, right: bool, payload: &[u8], memory: &mut [u8]) -> Stepped
+    ensures { λ r. ⌜ returned r (now (memory .exit)) [] ≡ lockTurned card right (now (payload .entry)) (now (memory .entry)) ⌝ }
+{
+    if right {
+        return operate(card, payload, memory);
+    }
+    answered(card, with_state(card.core, State::Tran), Answer::Rejected)
 }

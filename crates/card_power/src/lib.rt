@@ -7,6 +7,7 @@ use card::Bus;
 use card::Card;
 use card::Core;
 use card::Line;
+use card::Mode;
 use card::Open;
 use card::Password;
 use card::Settings;
@@ -35,6 +36,7 @@ fn fresh(settings: Settings, locked: bool) -> Core
     ensures { λ r. ⌜ r ≡ fresh settings locked ⌝ }
 {
     let bus = Bus {
+        mode: Mode::Sd,
         state: State::Idle,
         rca: 0,
         published: 0,

@@ -11,7 +11,7 @@ use Rattle.card.specs.Execute.{ran, settled, run}
 use Rattle.card.specs.Frame.{judged, judge}
 
 pub judge-by : (c : Core) (index argument : ℕ) (k : Command) (mine : Bool) → k ≡ commandOf (c .bus) index argument → mine ≡ own (c .bus) argument
-    → cond (accepts k (c .locked) && legal k (c .bus .state))
+    → cond (accepts k (c .locked) && legal k (c .bus))
     (cond (misses (row k .rca) mine) (judged OtherCard k (ran c Nothing)) (judged Ran k (run k (settled k c) argument)))
     (judged NotAllowed k (ran c Nothing))
     ≡ judge c index argument

@@ -18,16 +18,15 @@ pub fn judge(c: Core, index: u8, argument: u32) -> Judged
     ensures { λ r. ⌜ r ≡ judge c index argument ⌝ }
 {
     let bus = c.bus;
-    let state = bus.state;
     let command = command_of(bus, index, argument);
-    if !(accepts(command, c.locked) & legal(command, state)) {
+    if !(accepts(command, c.locked) & legal(command, bus)) {
         return Judged {
             verdict: Verdict::NotAllowed,
             command: command,
             done: ran(c, Response::Nothing),
         };
     }
-    if misses(command, own(bus.rca, argument)) {
+    if misses(command, own(bus, argument)) {
         return Judged {
             verdict: Verdict::OtherCard,
             command: command,

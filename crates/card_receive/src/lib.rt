@@ -1,33 +1,26 @@
-// The frame rules of SD mode, in order: one walk over the frame gives the command or what is wrong with it.
+// A frame, in the bus mode that the card is in.
 ghost use mathlib.Core.Path.{_≡_};
-ghost use Rattle.card.specs.Frame.{receive};
-ghost use Rattle.card_finish.specs.Turned.{turned};
+ghost use Rattle.card.specs.Receive.{receive};
+ghost use Rattle.card_turn.specs.Turned.{turned};
 
 pub mod judge;
+pub mod sd;
+pub mod spi;
 
 use card::Core;
-use card::done::Flag;
-use card_finish::Turned;
-use card_finish::quiet;
-use card_finish::show_sd;
-use judge::judge;
-use wire_frame::command::FrameCheck;
+use card_state::in_spi;
+use card_turn::Turned;
+use sd::receive_sd;
+use spi::receive_spi;
 
-// the number of ina
-const INA: u8 = 9;
-
-pub fn receive(c: Core, frame: &[u8]) -> Turned
-    ensures { λ r. ⌜ turned r ≡ receive c (now (frame .entry)) ⌝ }
+// `low`: chip select is low, which SPI mode does not look at.
+pub fn receive(c: Core, low: bool, frame: &[u8]) -> Turned
+    ensures { λ r. ⌜ turned r ≡ receive c low (now (frame .entry)) ⌝ }
 {
     let bus = c.bus;
-    let state = bus.state;
-    if card_state::number(state) == INA {
-        return quiet(c, Flag::Keep);
+    let mode = bus.mode;
+    if in_spi(mode) {
+        return receive_spi(c, frame);
     }
-    match wire_frame::command::check(frame) {
-        FrameCheck::Good { index, argument } => show_sd(c, judge(c, index, argument)),
-        FrameCheck::Size => quiet(c, Flag::Keep),
-        FrameCheck::Start => quiet(c, Flag::Keep),
-        FrameCheck::Check => quiet(c, Flag::Set),
-    }
+    receive_sd(c, low, frame)
 }

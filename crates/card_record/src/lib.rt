@@ -2,16 +2,18 @@
 pub mod erase;
 
 ghost use mathlib.Core.Path.{_≡_};
-ghost use Rattle.card.specs.Record.{withBus, withState, withApp, withRca, withPolls, withKept, withErase, withLength, withWritten, withMarks, withLocked, withSettings};
+ghost use Rattle.card.specs.Record.{withBus, withState, withApp, withRca, withPolls, withMode, withKept, withErase, withLength, withWritten, withMarks, withLocked, withSettings};
 ghost use Rattle.card.specs.Execute.{raise, reset, dropErase};
 use card::Bus;
 use card::Core;
 use card::EraseMarks;
 use card::Kept;
+use card::Mode;
 use card::Settings;
 use card::State;
 use card::size::BLOCK;
 use card_settings::csd_of;
+use card_state::unchecked;
 use card_status::join;
 use card_status::no_bits;
 use card_status::only;
@@ -84,11 +86,13 @@ pub fn with_settings(c: Core, settings: Settings) -> Core
     next
 }
 
-pub fn with_state(c: Core, s: State) -> Core
-    ensures { λ r. ⌜ r ≡ withState c s ⌝ }
+// An enum of the bus is set by a bus anew.
+fn with_mode_and_state(c: Core, mode: Mode, s: State) -> Core
+    ensures { λ r. ⌜ r ≡ withMode (withState c s) mode ⌝ }
 {
     let bus = c.bus;
     let next = Bus {
+        mode: mode,
         state: s,
         rca: bus.rca,
         published: bus.published,
@@ -96,6 +100,22 @@ pub fn with_state(c: Core, s: State) -> Core
         app: bus.app,
     };
     with_bus(c, next)
+}
+
+pub fn with_state(c: Core, s: State) -> Core
+    ensures { λ r. ⌜ r ≡ withState c s ⌝ }
+{
+    let bus = c.bus;
+    let mode = bus.mode;
+    with_mode_and_state(c, mode, s)
+}
+
+pub fn with_mode(c: Core, mode: Mode) -> Core
+    ensures { λ r. ⌜ r ≡ withMode c mode ⌝ }
+{
+    let bus = c.bus;
+    let state = bus.state;
+    with_mode_and_state(c, mode, state)
 }
 
 pub fn with_app(c: Core, app: bool) -> Core
@@ -139,11 +159,14 @@ pub fn drop_erase(c: Core) -> Core
     with_erase(c, no_erase())
 }
 
-// Command 0: all but the settings, the last published address, the lock and the marks.
+// Command 0: all but the settings, the bus mode, the last published address, the lock and the marks.
 pub fn reset(c: Core) -> Core
     ensures { λ r. ⌜ r ≡ reset c ⌝ }
 {
+    let held = c.bus;
+    let mode = held.mode;
     let bus = Bus {
+        mode: unchecked(mode),
         state: State::Idle,
         rca: 0,
         published: c.bus.published,

@@ -1,5 +1,5 @@
 -- Responses that an encoder sends: there is room, each field fits or is cut to its width, and they are what the step shows.
-use mathlib.Core.Path.{_≡_, sym, ap, ap₂, _∙_}
+use mathlib.Core.Path.{_≡_, refl, sym, ap, ap₂, _∙_}
 use mathlib.Core.Bool.{Bool, true}
 use mathlib.Core.List.{List, [], _∷_, _++_}
 use Prim.Native.Nat.{ℕ, _/_, _%_, _^_, _<_, _≤_}
@@ -7,7 +7,7 @@ use native.Mathlib.Nat.{mod-mod}
 use native.Mathlib.Omega.{arith}
 use borrow.Author.Tests.{eq-eqb, le-ltb, lt-ltb}
 use lib.Dec.{eqb}
-use lib.ListN.{length, drop}
+use lib.ListN.{length, drop, set}
 use lib.Pow.{mod-mod-pow}
 use Rattle.crc.specs.Bits.{bits, number, bytes, Bytes}
 use Rattle.crc.proofs.Bits.{bits-cong}
@@ -18,11 +18,13 @@ use Rattle.codec.specs.Format.{Format, encode, image, ended, crc7From}
 use Rattle.wire_response.specs.Response.{r1, r2Bytes, encodeR2, r3, r6, r7}
 use Rattle.wire_response.specs.Status.{shortStatus}
 use Rattle.card.specs.declared.answer.Answer.{Answer}
+use Rattle.card.specs.declared.answer.Answer.the-variants.{Silence, Sent}
 use Rattle.card.specs.Frame as Frame
 use Rattle.card.specs.Step as Step
-use Rattle.card.specs.Step.{answer, silent, wire, replyOf}
+use Rattle.card.specs.Step.{answer, wire, replyOf}
 use Rattle.card_call.specs.Replied.{replied}
-use Rattle.card_respond.specs.Sent.{Sends}
+use Rattle.card_respond.specs.declared.Behind.{Behind}
+use Rattle.card_respond.specs.Sent.{behind, Sends, Shows}
 
 pub sends : (f : Format) (vs s out after : List ℕ) (e : Encoded) (a : Answer) → encoding e after ≡ encode f vs out → 17 ≤ length out
     → fits (f .slots) vs ≡ true → image f vs ≡ s → answer a ≡ replied (encoded e) → Sends s out after a
@@ -83,19 +85,40 @@ short-cut w =
     rw (a, b, c) (ap (λ (x : List Bool). number (eqb (w / 2 ^ 23 % 2) 1 ∷ (eqb (w / 2 ^ 22 % 2) 1 ∷ (eqb (w / 2 ^ 19 % 2) 1 ∷ x))))
     (bits-cong 13 (w % 2 ^ 32) w (mod-mod-pow w 19 13)))
 
+-- ---- bytes of SPI mode
+
+-- R1 and what stands behind it, stored in front of the buffer
+module _ (r1 : ℕ) where
+  pub r1-alone : (out : List ℕ) → 17 ≤ length out → set out 0 r1 ≡ r1 ∷ drop 1 out
+  r1-alone [] h = absurd (omega arith)
+  r1-alone (x ∷ out) h = refl
+
+  pub r1-second : (byte : ℕ) (out : List ℕ) → 17 ≤ length out → set (set out 0 r1) 1 byte ≡ r1 ∷ (byte ∷ drop 2 out)
+  r1-second byte [] h = absurd (omega arith)
+  r1-second byte (x ∷ []) h = absurd (omega arith)
+  r1-second byte (x ∷ (y ∷ out)) h = refl
+
+-- so many bytes, in front of what stood behind them
+pub sends-spi : (r1 n : ℕ) (rest k : Behind) (out after : List ℕ) → rest ≡ k → n ≡ length (r1 ∷ behind k) → after ≡ (r1 ∷ behind k) ++ drop n out
+    → Sends (r1 ∷ behind rest) out after (Sent n)
+sends-spi r1 n rest k out after e l h = rw e (record {
+  count = ap (λ (x : ℕ). done (Step.sent x)) l;
+  buffer = h ∙ ap (λ (x : ℕ). (r1 ∷ behind k) ++ drop x out) l;
+})
+
 -- ---- messages
 
 -- the step shows a message as the bytes that were sent
 module _ (crc : Bool) (n k : Frame.Message) (e : n ≡ k) (out : List ℕ) where
   pub shows : (s after : List ℕ) (a : Answer) → wire crc k ≡ s → replyOf crc k ≡ Step.sent (length (wire crc k)) → Sends s out after a
-      → (answer a ≡ done (replyOf crc n)) × (after ≡ wire crc n ++ drop (length (wire crc n)) out)
+      → Shows crc n out after a
   shows s after a w r h = (
     h .count ∙ ap done (sym (ap (replyOf crc) e ∙ r ∙ ap (λ (x : List ℕ). Step.sent (length x)) w)),
     h .buffer ∙ ap (λ (x : List ℕ). x ++ drop (length x) out) (sym (ap (wire crc) e ∙ w)),
   )
 
 pub shows-silence : (crc : Bool) (n : Frame.Message) (out : List ℕ) → n ≡ Frame.silence
-    → (done silent ≡ done (replyOf crc n)) × (out ≡ wire crc n ++ drop (length (wire crc n)) out)
+    → Shows crc n out out Silence
 unfolding wire replyOf
 shows-silence crc n out e = (
   ap (λ (x : Frame.Message). done (replyOf crc x)) (sym e),

@@ -9,8 +9,10 @@ use card::done::Response;
 use card_erase::erase;
 use card_erase::erase_end;
 use card_erase::erase_start;
+use card_identify::crc_on_off;
+use card_identify::read_ocr;
+use card_identify::sd_send_op_cond;
 use card_identify::send_if_cond;
-use card_identify::send_op_cond;
 use card_identify::send_relative_addr;
 use card_record::reset;
 use card_settings::address_of;
@@ -35,8 +37,8 @@ fn run_at(command: Command, c: Core, argument: u32, a: u32) -> Done
         Command::SelectCard => moving(Command::SelectCard, c, Response::R1),
         Command::DeselectCard => moving(Command::DeselectCard, c, Response::Nothing),
         Command::SendIfCond => send_if_cond(c, argument),
-        Command::SendCsd => ran(c, Response::Csd),
-        Command::SendCid => ran(c, Response::Cid),
+        Command::SendCsd => send(Command::SendCsd, c, Source::Csd, Response::Csd),
+        Command::SendCid => send(Command::SendCid, c, Source::Cid, Response::Cid),
         Command::StopTransmission => moving(Command::StopTransmission, c, Response::R1),
         Command::SendStatus => ran(c, Response::R1),
         Command::AppCmd => ran(c, Response::R1),
@@ -53,12 +55,19 @@ fn run_at(command: Command, c: Core, argument: u32, a: u32) -> Done
         Command::Erase => erase(c),
         Command::EraseWrBlkStart => erase_start(c, a),
         Command::EraseWrBlkEnd => erase_end(c, a),
-        Command::SdStatus => send(Command::SdStatus, c, Source::SdStatus),
-        Command::SendNumWrBlocks => send(Command::SendNumWrBlocks, c, Source::WrittenBlocks),
-        Command::SendScr => send(Command::SendScr, c, Source::Scr),
+        Command::SdStatus => send(Command::SdStatus, c, Source::SdStatus, Response::R1),
+        Command::SendNumWrBlocks => send(
+            Command::SendNumWrBlocks,
+            c,
+            Source::WrittenBlocks,
+            Response::R1,
+        ),
+        Command::SendScr => send(Command::SendScr, c, Source::Scr, Response::R1),
         Command::SetWrBlkEraseCount => ran(c, Response::R1),
         Command::SetClrCardDetect => ran(c, Response::R1),
-        Command::SdSendOpCond => send_op_cond(c, argument),
+        Command::SdSendOpCond => sd_send_op_cond(c, argument),
+        Command::ReadOcr => read_ocr(c),
+        Command::CrcOnOff => crc_on_off(c, argument),
         Command::Unknown => ran(c, Response::Nothing),
     }
 }

@@ -1,2 +1,3 @@
 -- A block that is sent.
+pub mod Led
 pub mod Sent

@@ -4,8 +4,8 @@ use mathlib.Core.List.{List}
 use Prim.Native.Nat.{ℕ}
 use Rattle.codec.specs.declared.Encoded.{Encoded}
 use Rattle.codec.specs.Answer.{Outcome, Encoding, encoded, encoding}
-use Rattle.wire_packet.specs.Packet.{encodePacket}
 use Rattle.card.specs.declared.answer.Answer.{Answer}
+use Rattle.card.specs.declared.State.{State}
 use Rattle.card.specs.declared.Core.{Core}
 use Rattle.card.specs.declared.Card.{Card}
 use Rattle.card_call.specs.declared.Stepped.{Stepped}
@@ -13,7 +13,7 @@ use Rattle.card.specs.Step.{Reply, answer}
 use Rattle.card_call.specs.Seen.{Seen, returned}
 use Rattle.card_call.specs.Replied.{replied}
 use Rattle.card_call.proofs.Turns.{after}
-use Rattle.card_send.specs.Sending.{sending}
+use Rattle.card_send.specs.Sending.{sending, sent}
 
 module _ (r : Stepped) (card : Card) (memory made : List ℕ) where
   pub sent-as : (a : Answer) (d core : Core) (e : Encoded) (x : Encoding) → r ≡ after card d a → answer a ≡ replied (encoded e) → d ≡ core
@@ -24,7 +24,6 @@ module _ (r : Stepped) (card : Card) (memory made : List ℕ) where
       ∙ ap (sending card core memory) h
 
 -- the same payload
-pub same-as : (r : Stepped) (card : Card) (core : Core) (memory out made p q : List ℕ)
-    → returned r memory made ≡ sending card core memory (encodePacket p out) → p ≡ q
-    → returned r memory made ≡ sending card core memory (encodePacket q out)
-same-as r card core memory out made p q h j = h ∙ ap (λ (s : List ℕ). sending card core memory (encodePacket s out)) j
+pub same-as : (r : Stepped) (card : Card) (next : State) (memory out made p q : List ℕ) → returned r memory made ≡ sent card next p memory out → p ≡ q
+    → returned r memory made ≡ sent card next q memory out
+same-as r card next memory out made p q h j = h ∙ ap (λ (s : List ℕ). sent card next s memory out) j

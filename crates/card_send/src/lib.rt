@@ -1,15 +1,17 @@
-// The answers of a take: a payload straight into the output buffer with its check, or a transfer that is held.
+// The answers of a take: a payload straight into the output buffer with its check, and its token in SPI mode; or a transfer that is held.
 ghost use mathlib.Core.Path.{_≡_};
 ghost use mathlib.Core.List.{List};
 ghost use Prim.Native.Nat.{ℕ};
 ghost use lib.ListN.{replicate};
-ghost use Rattle.wire_packet.specs.Packet.{encodePacket};
 ghost use Rattle.card.specs.declared.State.the-variants.{Tran};
-ghost use Rattle.card.specs.Settings.{scrBytes};
-ghost use Rattle.card.specs.Record.{withState};
+ghost use Rattle.card.specs.Settings.{cidBytes, csdBytes, scrBytes};
 ghost use Rattle.card.specs.Data.{word32, markBytes, holdRead};
 ghost use Rattle.card_call.specs.Seen.{returned, turned};
-ghost use Rattle.card_send.specs.Sending.{sending};
+ghost use Rattle.card_send.specs.Sending.{sent};
+
+mod block;
+
+use block::encode_block;
 use card::Card;
 use card::Source;
 use card::State;
@@ -20,15 +22,18 @@ use card_call::report;
 use card_protect::mark_word;
 use card_record::raise;
 use card_record::with_state;
+use card_state::in_spi;
 
 // The payload, and on to the next state.
 pub fn send(card: Card, next: State, payload: &[u8], out: &mut [u8]) -> Stepped
     ensures { λ r.
         ⌜ ((memory : List ℕ)
         → returned r memory (now (out .exit))
-        ≡ sending card (withState (card .core) next) memory (encodePacket (now (payload .entry)) (now (out .entry)))) ⌝ }
+        ≡ sent card next (now (payload .entry)) memory (now (out .entry))) ⌝ }
 {
-    let answer = report(wire_packet::encode(payload, out));
+    let bus = card.core.bus;
+    let mode = bus.mode;
+    let answer = report(encode_block(in_spi(mode), payload, out));
     answered(card, with_state(card.core, next), answer)
 }
 
@@ -37,7 +42,7 @@ pub fn send_word(card: Card, word: u32, out: &mut [u8]) -> Stepped
     ensures { λ r.
         ⌜ ((memory : List ℕ)
         → returned r memory (now (out .exit))
-        ≡ sending card (withState (card .core) Tran) memory (encodePacket (word32 word) (now (out .entry)))) ⌝ }
+        ≡ sent card Tran (word32 word) memory (now (out .entry))) ⌝ }
 {
     let mut payload: [u8; 4] = [0; 4];
     codec::put32(&mut payload, word);
@@ -48,7 +53,7 @@ pub fn send_word(card: Card, word: u32, out: &mut [u8]) -> Stepped
 pub fn send_marks(card: Card, address: u32, out: &mut [u8]) -> Stepped
     ensures { λ r.
         ⌜ ((memory : List ℕ)
-        → returned r memory (now (out .exit)) ≡ sending card (withState (card .core) Tran) memory (encodePacket (markBytes (card .core) address) (now (out .entry)))) ⌝ }
+        → returned r memory (now (out .exit)) ≡ sent card Tran (markBytes (card .core) address) memory (now (out .entry))) ⌝ }
 {
     let marks = card.core.marks;
     let word = mark_word(card.core.settings.blocks, &marks, address);
@@ -59,7 +64,7 @@ pub fn send_marks(card: Card, address: u32, out: &mut [u8]) -> Stepped
 pub fn send_status(card: Card, out: &mut [u8]) -> Stepped
     ensures { λ r.
         ⌜ ((memory : List ℕ)
-        → returned r memory (now (out .exit)) ≡ sending card (withState (card .core) Tran) memory (encodePacket (replicate 64 0) (now (out .entry)))) ⌝ }
+        → returned r memory (now (out .exit)) ≡ sent card Tran (replicate 64 0) memory (now (out .entry))) ⌝ }
 {
     let payload: [u8; 64] = [0; 64];
     send(card, State::Tran, &payload, out)
@@ -68,10 +73,32 @@ pub fn send_status(card: Card, out: &mut [u8]) -> Stepped
 pub fn send_scr(card: Card, out: &mut [u8]) -> Stepped
     ensures { λ r.
         ⌜ ((memory : List ℕ)
-        → returned r memory (now (out .exit)) ≡ sending card (withState (card .core) Tran) memory (encodePacket scrBytes (now (out .entry)))) ⌝ }
+        → returned r memory (now (out .exit)) ≡ sent card Tran scrBytes memory (now (out .entry))) ⌝ }
 {
     let payload: [u8; 8] = [2, 1, 0, 0, 0, 0, 0, 0];
     send(card, State::Tran, &payload, out)
+}
+
+// 9 and 10 in SPI mode.
+
+pub fn send_csd(card: Card, out: &mut [u8]) -> Stepped
+    ensures { λ r.
+        ⌜ ((memory : List ℕ)
+        → returned r memory (now (out .exit)) ≡ sent card Tran (csdBytes (card .core .csd)) memory (now (out .entry))) ⌝ }
+{
+    let register = card.core.csd;
+    let csd = reg_csd::sixteen(register);
+    send(card, State::Tran, &csd, out)
+}
+
+pub fn send_cid(card: Card, out: &mut [u8]) -> Stepped
+    ensures { λ r.
+        ⌜ ((memory : List ℕ)
+        → returned r memory (now (out .exit)) ≡ sent card Tran (cidBytes (card .core .settings)) memory (now (out .entry))) ⌝ }
+{
+    let register = card.core.settings.cid;
+    let cid = reg_cid::cid::sixteen(register);
+    send(card, State::Tran, &cid, out)
 }
 
 // A status bit by its number; the transfer is silent until it is ended.

@@ -66,15 +66,17 @@ fn unsound_rest(c: Core) -> bool
     if state::mark_outside(top, second) {
         return true;
     }
+    let mode = bus.mode;
+    let spi = card_state::in_spi(mode);
     let number = card_state::number(state);
-    if state::bad_rca(number, bus.rca) {
+    if state::bad_rca(spi, number, bus.rca) {
         return true;
     }
     let marks = c.marks;
     if marks::marked_from(&marks, card_settings::groups(blocks)) {
         return true;
     }
-    state::bad_app(number, bus.app)
+    state::bad_app(spi, number, bus.app)
 }
 
 // The items of 01's list that a record can break, in its order.

@@ -1,4 +1,4 @@
-// What is asked of the transfer, of an erase mark, and of the number of a state.
+// What is asked of the transfer, of an erase mark, and of the number of a state in a bus mode.
 ghost use mathlib.Core.Path.{_≡_};
 ghost use Rattle.card.specs.Soundness.{offWrite, sinkMost, writtenMost, markOutside, badRca, badApp};
 use card::EraseMark;
@@ -59,10 +59,13 @@ pub(crate) fn mark_outside(top: u64, m: EraseMark) -> bool
     }
 }
 
-// The RCA is nonzero in idle, ready and ident, or zero in stby to dis; free in ina.
-pub(crate) fn bad_rca(state: u8, rca: u16) -> bool
-    ensures { λ r. ⌜ r ≡ badRca state rca ⌝ }
+// In SD mode: the RCA is nonzero in idle, ready and ident, or zero in stby to dis; free in ina.
+pub(crate) fn bad_rca(spi: bool, state: u8, rca: u16) -> bool
+    ensures { λ r. ⌜ r ≡ badRca spi state rca ⌝ }
 {
+    if spi {
+        return false;
+    }
     if state == INA {
         return false;
     }
@@ -72,9 +75,12 @@ pub(crate) fn bad_rca(state: u8, rca: u16) -> bool
     rca != 0
 }
 
-// The application mark in ready, ident or ina.
-pub(crate) fn bad_app(state: u8, app: bool) -> bool
-    ensures { λ r. ⌜ r ≡ badApp state app ⌝ }
+// In SD mode: the application mark in ready, ident or ina.
+pub(crate) fn bad_app(spi: bool, state: u8, app: bool) -> bool
+    ensures { λ r. ⌜ r ≡ badApp spi state app ⌝ }
 {
+    if spi {
+        return false;
+    }
     app & ((state == READY) | ((state == IDENT) | (state == INA)))
 }

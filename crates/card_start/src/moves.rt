@@ -1,4 +1,4 @@
-// A move by the transition table, to the state that the command's row gives.
+// A move by the transition table, to the state that the command's row gives in the bus mode.
 ghost use mathlib.Core.Path.{_≡_};
 ghost use Rattle.card.specs.Execute.{ran, moved, opening};
 use crate::done::ran;
@@ -16,7 +16,7 @@ pub fn moved(command: Command, c: Core) -> Core
 {
     let bus = c.bus;
     let state = bus.state;
-    with_state(c, after(command, state, state))
+    with_state(c, after(command, bus, state))
 }
 
 // A command that only moves the card.
@@ -31,6 +31,5 @@ pub fn opening(command: Command, c: Core, t: State) -> Core
     ensures { λ r. ⌜ r ≡ opening command c t ⌝ }
 {
     let bus = c.bus;
-    let state = bus.state;
-    with_state(c, after(command, state, t))
+    with_state(c, after(command, bus, t))
 }

@@ -1,7 +1,8 @@
-// The number of a state, and what it has open: every question that is asked of a state goes by these.
+// The number of a state, the bus mode, and what a state has open: every question that is asked of a state goes by these.
 ghost use mathlib.Core.Path.{_≡_};
 ghost use Prim.Native.Nat.{_≤_};
-ghost use Rattle.card.specs.State.{number, arrive, openOf, reading, writing, busy, sinkLocks, locking, sourceAddress, sinkAddress, transferAddress, sink};
+ghost use Rattle.card.specs.State.{number, arrive, inSpi, checking, unchecked, spiNumber, numberIn, openOf, reading, writing, busy, sinkLocks, sinkMultiple, writingMultiple, locking, sourceAddress, sinkAddress, transferAddress, sink};
+use card::Mode;
 use card::Open;
 use card::Sink;
 use card::Source;
@@ -40,6 +41,63 @@ pub fn arrive(n: u8, t: State) -> State
         8 => State::Dis,
         _ => State::Ina,
     }
+}
+
+pub fn in_spi(m: Mode) -> bool
+    ensures { λ r. ⌜ r ≡ inSpi m ⌝ }
+{
+    match m {
+        Mode::Sd => false,
+        Mode::Spi { checks: _ } => true,
+    }
+}
+
+// Whether CRC7 and CRC16 are judged.
+pub fn checking(m: Mode) -> bool
+    ensures { λ r. ⌜ r ≡ checking m ⌝ }
+{
+    match m {
+        Mode::Sd => true,
+        Mode::Spi { checks } => checks,
+    }
+}
+
+// Command 0 turns the checks off, and leaves the mode.
+pub fn unchecked(m: Mode) -> Mode
+    ensures { λ r. ⌜ r ≡ unchecked m ⌝ }
+{
+    match m {
+        Mode::Sd => Mode::Sd,
+        Mode::Spi { checks: _ } => Mode::Spi { checks: false },
+    }
+}
+
+// What counts of a state in SPI mode.
+fn spi_number(s: State) -> u8
+    ensures { λ r. ⌜ (r ≡ spiNumber s) × (r ≤ 9) ⌝ }
+{
+    match s {
+        State::Idle => 0,
+        State::Ready => 4,
+        State::Ident => 4,
+        State::Stby => 4,
+        State::Tran => 4,
+        State::Data(_) => 5,
+        State::Rcv(_) => 6,
+        State::Prg => 7,
+        State::Dis => 7,
+        State::Ina => 4,
+    }
+}
+
+// The number by which the table of a mode goes.
+pub fn number_in(spi: bool, s: State) -> u8
+    ensures { λ r. ⌜ (r ≡ numberIn spi s) × (r ≤ 9) ⌝ }
+{
+    if spi {
+        return spi_number(s);
+    }
+    number(s)
 }
 
 pub fn open(s: State) -> Open
@@ -108,6 +166,34 @@ fn sink_locks(s: Sink) -> bool
     }
 }
 
+fn sink_multiple(s: Sink) -> bool
+    ensures { λ r. ⌜ r ≡ sinkMultiple s ⌝ }
+{
+    match s {
+        Sink::Single {
+            address: _,
+            held: _,
+        } => false,
+        Sink::Multiple {
+            address: _,
+            held: _,
+        } => true,
+        Sink::LockUnlock => false,
+    }
+}
+
+// The blocks of 25 are awaited.
+pub fn writing_multiple(o: Open) -> bool
+    ensures { λ r. ⌜ r ≡ writingMultiple o ⌝ }
+{
+    match o {
+        Open::Nothing => false,
+        Open::Read(_) => false,
+        Open::Write(sink) => sink_multiple(sink),
+        Open::Busy(_) => false,
+    }
+}
+
 // The block of 42 is awaited.
 pub fn locking(o: Open) -> bool
     ensures { λ r. ⌜ r ≡ locking o ⌝ }
@@ -133,6 +219,8 @@ fn source_address(s: Source) -> u32
         Source::SdStatus => 0,
         Source::WrittenBlocks => 0,
         Source::Scr => 0,
+        Source::Csd => 0,
+        Source::Cid => 0,
     }
 }
 

@@ -9,50 +9,60 @@ use borrow.Author.Tests.{ltb-true, ne-eqb}
 use lib.Dec.{eqb, ltb}
 use lib.Pow.{pow-add}
 use Rattle.card.specs.declared.command.Command.{Command}
-use Rattle.card.specs.declared.command.Command.the-variants.{GoIdleState, AllSendCid, SendRelativeAddr, SelectCard, DeselectCard, SendIfCond, SendCsd, SendCid, StopTransmission, SendStatus, AppCmd, GoInactiveState, SetBlocklen, ReadSingleBlock, ReadMultipleBlock, SendWriteProt, WriteBlock, WriteMultipleBlock, LockUnlock, SetWriteProt, ClrWriteProt, Erase, EraseWrBlkStart, EraseWrBlkEnd, SdStatus, SendNumWrBlocks, SendScr, SetWrBlkEraseCount, SetClrCardDetect, SdSendOpCond, Unknown}
+use Rattle.card.specs.declared.command.Command.the-variants.{GoIdleState, AllSendCid, SendRelativeAddr, SelectCard, DeselectCard, SendIfCond, SendCsd, SendCid, StopTransmission, SendStatus, AppCmd, GoInactiveState, SetBlocklen, ReadSingleBlock, ReadMultipleBlock, SendWriteProt, WriteBlock, WriteMultipleBlock, LockUnlock, SetWriteProt, ClrWriteProt, Erase, EraseWrBlkStart, EraseWrBlkEnd, SdStatus, SendNumWrBlocks, SendScr, SetWrBlkEraseCount, SetClrCardDetect, SdSendOpCond, ReadOcr, CrcOnOff, Unknown}
+use Rattle.card.specs.declared.Bus.{Bus}
 use Rattle.card.specs.declared.State.{State}
-use Rattle.card.specs.State.{number, arrive}
-use Rattle.card.specs.Table.{Move, row, moves, has, lead, after}
-use Rattle.card_table.specs.Packed.{leadOr, packed}
+use Rattle.card.specs.State.{inSpi, numberIn, arrive}
+use Rattle.card.specs.Table.{Move, row, moves, has, lead, legal, after}
+use Rattle.card_table.specs.declared.Columns.{Columns}
+use Rattle.card_table.specs.Packed.{leadOr, packed, packedRow}
 
 -- every state that the moves lead to is below 15, which stands for none
 low : List Move → Bool
 low [] = true
 low (m ∷ ms) = ltb (m .to) 15 && low ms
 
-low-row : (k : Command) → low (moves k) ≡ true
+low-row : (k : Command) → (low (row k .sd) ≡ true) × (low (row k .spi) ≡ true)
 unfolding low row
-low-row GoIdleState = refl
-low-row AllSendCid = refl
-low-row SendRelativeAddr = refl
-low-row SelectCard = refl
-low-row DeselectCard = refl
-low-row SendIfCond = refl
-low-row SendCsd = refl
-low-row SendCid = refl
-low-row StopTransmission = refl
-low-row SendStatus = refl
-low-row AppCmd = refl
-low-row GoInactiveState = refl
-low-row SetBlocklen = refl
-low-row ReadSingleBlock = refl
-low-row ReadMultipleBlock = refl
-low-row SendWriteProt = refl
-low-row WriteBlock = refl
-low-row WriteMultipleBlock = refl
-low-row LockUnlock = refl
-low-row SetWriteProt = refl
-low-row ClrWriteProt = refl
-low-row Erase = refl
-low-row EraseWrBlkStart = refl
-low-row EraseWrBlkEnd = refl
-low-row SdStatus = refl
-low-row SendNumWrBlocks = refl
-low-row SendScr = refl
-low-row SetWrBlkEraseCount = refl
-low-row SetClrCardDetect = refl
-low-row SdSendOpCond = refl
-low-row Unknown = refl
+low-row GoIdleState = (refl, refl)
+low-row AllSendCid = (refl, refl)
+low-row SendRelativeAddr = (refl, refl)
+low-row SelectCard = (refl, refl)
+low-row DeselectCard = (refl, refl)
+low-row SendIfCond = (refl, refl)
+low-row SendCsd = (refl, refl)
+low-row SendCid = (refl, refl)
+low-row StopTransmission = (refl, refl)
+low-row SendStatus = (refl, refl)
+low-row AppCmd = (refl, refl)
+low-row GoInactiveState = (refl, refl)
+low-row SetBlocklen = (refl, refl)
+low-row ReadSingleBlock = (refl, refl)
+low-row ReadMultipleBlock = (refl, refl)
+low-row SendWriteProt = (refl, refl)
+low-row WriteBlock = (refl, refl)
+low-row WriteMultipleBlock = (refl, refl)
+low-row LockUnlock = (refl, refl)
+low-row SetWriteProt = (refl, refl)
+low-row ClrWriteProt = (refl, refl)
+low-row Erase = (refl, refl)
+low-row EraseWrBlkStart = (refl, refl)
+low-row EraseWrBlkEnd = (refl, refl)
+low-row SdStatus = (refl, refl)
+low-row SendNumWrBlocks = (refl, refl)
+low-row SendScr = (refl, refl)
+low-row SetWrBlkEraseCount = (refl, refl)
+low-row SetClrCardDetect = (refl, refl)
+low-row SdSendOpCond = (refl, refl)
+low-row ReadOcr = (refl, refl)
+low-row CrcOnOff = (refl, refl)
+low-row Unknown = (refl, refl)
+
+-- in either mode
+low-in : (spi : Bool) (k : Command) → low (moves spi k) ≡ true
+unfolding moves
+low-in true k = low-row k .1
+low-in false k = low-row k .0
 
 both : (a b : Bool) → (a && b) ≡ true → (a ≡ true) × (b ≡ true)
 both true b h = (refl, h)
@@ -85,27 +95,18 @@ none-at true x h = ap not (ne-eqb x 15 (λ e. omega (arith, h refl)))
 none-at false x h = refl
 
 -- allowed where the digit is not 15
-pub lead-none : (k : Command) (n : ℕ) → not (eqb (leadOr (moves k) n) 15) ≡ has (moves k) n
+lead-none : (ms : List Move) (n : ℕ) → low ms ≡ true → not (eqb (leadOr ms n) 15) ≡ has ms n
 unfolding leadOr
-lead-none k n = none-at (has (moves k) n) (lead (moves k) n) (lead-low (moves k) n (low-row k))
+lead-none ms n l = none-at (has ms n) (lead ms n) (lead-low ms n l)
 
 there-at : (t : Bool) (x n : ℕ) → (t ≡ true → x < 15) → (t ≡ false → x ≡ n) → cond (eqb (cond t x 15) 15) n (cond t x 15) ≡ x
 there-at true x n h g = ap (λ (b : Bool). cond b n x) (ne-eqb x 15 (λ e. omega (arith, h refl)))
 there-at false x n h g = sym (g refl)
 
 -- the state that it leads to
-lead-there : (k : Command) (n : ℕ) → cond (eqb (leadOr (moves k) n) 15) n (leadOr (moves k) n) ≡ lead (moves k) n
+lead-there : (ms : List Move) (n : ℕ) → low ms ≡ true → cond (eqb (leadOr ms n) 15) n (leadOr ms n) ≡ lead ms n
 unfolding leadOr
-lead-there k n =
-    there-at (has (moves k) n) (lead (moves k) n) n (lead-low (moves k) n (low-row k)) (lead-stays (moves k) n)
-
-pub after-by : (k : Command) (s t : State) (n to : ℕ) → n ≡ number s → to ≡ leadOr (moves k) n → arrive (cond (eqb to 15) n to) t ≡ after k s t
-unfolding after
-after-by k s t n to p q =
-    ap (λ (x : ℕ). arrive x t)
-    (ap (λ (x : ℕ). cond (eqb x 15) n x) q
-    ∙ ap (λ (m : ℕ). cond (eqb (leadOr (moves k) m) 15) m (leadOr (moves k) m)) p
-    ∙ lead-there k (number s))
+lead-there ms n l = there-at (has ms n) (lead ms n) n (lead-low ms n l) (lead-stays ms n)
 
 -- ---- digits
 
@@ -142,7 +143,23 @@ digit-at ms l s (suc k) (suc n) h =
     ∙ digit-at ms l (suc s) k n less
     ∙ ap (leadOr ms) e
 
-pub digit-of : (k : Command) (n : ℕ) → n ≤ 9 → packed (moves k) 0 10 / 2 ^ (4 * n) % 16 ≡ leadOr (moves k) n
-digit-of k n h =
+digit-of : (ms : List Move) → low ms ≡ true → (n : ℕ) → n ≤ 9 → packed ms 0 10 / 2 ^ (4 * n) % 16 ≡ leadOr ms n
+digit-of ms l n h =
     let less : n < 10 = omega arith in
-    digit-at (moves k) (low-row k) 0 10 n less ∙ ap (leadOr (moves k)) (zero-add n)
+    digit-at ms l 0 10 n less ∙ ap (leadOr ms) (zero-add n)
+
+-- ---- the table read, by the row that the code has and the mode
+
+pub digit-in : (k : Command) (spi : Bool) (r : Columns) (n : ℕ) → r ≡ packedRow k → n ≤ 9 → cond spi (r .spi) (r .sd) / 2 ^ (4 * n) % 16 ≡ leadOr (moves spi k) n
+unfolding moves
+digit-in k true r n e h = ap (λ (x : Columns). x .spi / 2 ^ (4 * n) % 16) e ∙ digit-of (row k .spi) (low-row k .1) n h
+digit-in k false r n e h = ap (λ (x : Columns). x .sd / 2 ^ (4 * n) % 16) e ∙ digit-of (row k .sd) (low-row k .0) n h
+
+module _ (k : Command) (b : Bus) (spi : Bool) (n to : ℕ) (p : spi ≡ inSpi (b .mode)) (q : n ≡ numberIn spi (b .state)) (r : to ≡ leadOr (moves spi k) n) where
+  pub legal-by : not (eqb to 15) ≡ legal k b
+  unfolding legal
+  legal-by = rw (r, lead-none (moves spi k) n (low-in spi k), q, p)
+
+  pub after-by : (t : State) → arrive (cond (eqb to 15) n to) t ≡ after k b t
+  unfolding after
+  after-by t = rw (r, lead-there (moves spi k) n (low-in spi k), q, p)

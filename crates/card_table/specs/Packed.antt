@@ -1,4 +1,4 @@
--- A row of the transition table as the code has it: its moves are one number, a hex digit for each state.
+-- A row of the transition table as the code has it: its moves in a mode are one number, a hex digit for each state.
 use mathlib.Core.Bool.{cond}
 use mathlib.Core.List.{List}
 use Prim.Native.Nat.{ℕ, zero, suc, _+_, _*_}
@@ -22,5 +22,6 @@ packedRow k = record {
   rca = row k .rca;
   «keeps_erase» = row k .keepsErase;
   «when_locked» = row k .whenLocked;
-  moves = packed (row k .moves) 0 10;
+  sd = packed (row k .sd) 0 10;
+  spi = packed (row k .spi) 0 10;
 }

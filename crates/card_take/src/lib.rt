@@ -13,6 +13,7 @@ use card_call::Stepped;
 use card_call::refused;
 use card_refuse::refusal;
 use card_refuse::rows;
+use card_token::token_size;
 use wire_packet::CHECK;
 
 pub fn take(card: Card, memory: &[u8], out: &mut [u8]) -> Stepped
@@ -20,8 +21,9 @@ pub fn take(card: Card, memory: &[u8], out: &mut [u8]) -> Stepped
 {
     let bus = card.core.bus;
     let state = bus.state;
+    let mode = bus.mode;
     let open = card_state::open(state);
-    let room = BLOCK as usize + CHECK;
+    let room = token_size(mode) + (BLOCK as usize + CHECK);
     let r = rows(
         card.core,
         card.password.length,

@@ -6,6 +6,7 @@ ghost use Rattle.card.specs.declared.State.the-variants.{Data, Tran};
 ghost use Rattle.card.specs.Status.{OUT-OF-RANGE, ADDRESS-ERROR};
 ghost use Rattle.card.specs.Checks.{outside, crossing};
 ghost use Rattle.card.specs.Data.{takeSource};
+ghost use Rattle.card.specs.Step.{led};
 ghost use Rattle.card_call.specs.Seen.{returned, turned};
 ghost use Rattle.card_take.specs.Takes.{Takes};
 use card::Card;
@@ -16,6 +17,8 @@ use card::size::BLOCK;
 use card_call::Stepped;
 use card_send::hold;
 use card_send::send;
+use card_send::send_cid;
+use card_send::send_csd;
 use card_send::send_marks;
 use card_send::send_scr;
 use card_send::send_status;
@@ -63,7 +66,7 @@ fn take_blocks(
     requires { ⌜ Takes (card .core) (now memory) (now out) ⌝ }
     ensures { λ r.
         ⌜ returned r (now (memory .entry)) (now (out .exit))
-        ≡ turned card (now (memory .entry)) (now (out .entry)) (takeSource (Blocks multiple address held) (card .core) (now (memory .entry))) ⌝ }
+        ≡ turned card (now (memory .entry)) (now (out .entry)) (led (card .core .bus .mode) (takeSource (Blocks multiple address held) (card .core) (now (memory .entry)))) ⌝ }
 {
     if held {
         return Stepped {
@@ -90,7 +93,7 @@ pub(crate) fn take_source(source: Source, card: Card, memory: &[u8], out: &mut [
     requires { ⌜ Takes (card .core) (now memory) (now out) ⌝ }
     ensures { λ r.
         ⌜ returned r (now (memory .entry)) (now (out .exit))
-        ≡ turned card (now (memory .entry)) (now (out .entry)) (takeSource source (card .core) (now (memory .entry))) ⌝ }
+        ≡ turned card (now (memory .entry)) (now (out .entry)) (led (card .core .bus .mode) (takeSource source (card .core) (now (memory .entry)))) ⌝ }
 {
     match source {
         Source::Blocks {
@@ -102,5 +105,7 @@ pub(crate) fn take_source(source: Source, card: Card, memory: &[u8], out: &mut [
         Source::SdStatus => send_status(card, out),
         Source::WrittenBlocks => send_word(card, card.core.written, out),
         Source::Scr => send_scr(card, out),
+        Source::Csd => send_csd(card, out),
+        Source::Cid => send_cid(card, out),
     }
 }

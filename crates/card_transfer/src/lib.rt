@@ -45,24 +45,29 @@ pub fn set_blocklen(c: Core, argument: u32) -> Done
 }
 
 // The state t is the transfer that the command opens.
-fn opened(command: Command, c: Core, t: State) -> Done
-    ensures { λ r. ⌜ r ≡ ran (opening command c t) R1 ⌝ }
+fn opened(command: Command, c: Core, t: State, response: Response) -> Done
+    ensures { λ r. ⌜ r ≡ ran (opening command c t) response ⌝ }
 {
-    ran(opening(command, c, t), Response::R1)
+    ran(opening(command, c, t), response)
 }
 
-// A13, A22 and A51, and what the other reads open.
-pub fn send(command: Command, c: Core, source: Source) -> Done
-    ensures { λ r. ⌜ r ≡ ran (opening command c (Data source)) R1 ⌝ }
+// A13, A22 and A51, 9 and 10 in SPI mode, and what the other reads open.
+pub fn send(command: Command, c: Core, source: Source, response: Response) -> Done
+    ensures { λ r. ⌜ r ≡ ran (opening command c (Data source)) response ⌝ }
 {
-    opened(command, c, State::Data(source))
+    opened(command, c, State::Data(source), response)
 }
 
 // 42.
 pub fn lock_unlock(c: Core) -> Done
     ensures { λ r. ⌜ r ≡ ran (opening Command.LockUnlock c (Rcv Sink.LockUnlock)) R1 ⌝ }
 {
-    opened(Command::LockUnlock, c, State::Rcv(Sink::LockUnlock))
+    opened(
+        Command::LockUnlock,
+        c,
+        State::Rcv(Sink::LockUnlock),
+        Response::R1,
+    )
 }
 
 pub fn read_blocks(command: Command, c: Core, multiple: bool, address: u32) -> Done
@@ -74,7 +79,7 @@ pub fn read_blocks(command: Command, c: Core, multiple: bool, address: u32) -> D
         address: address,
         held: false,
     };
-    checked(c, bit, send(command, c, source))
+    checked(c, bit, send(command, c, source, Response::R1))
 }
 
 pub fn write_blocks(command: Command, c: Core, multiple: bool, address: u32) -> Done
@@ -114,5 +119,9 @@ pub fn send_write_prot(c: Core, address: u32) -> Done
 {
     let bit = address_check(capacity(c.settings.blocks), address);
     let source = Source::WriteProtect { address: address };
-    checked(c, bit, send(Command::SendWriteProt, c, source))
+    checked(
+        c,
+        bit,
+        send(Command::SendWriteProt, c, source, Response::R1),
+    )
 }

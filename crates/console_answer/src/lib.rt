@@ -1,5 +1,8 @@
-// The console's own calls of the card: a power-up with any settings and password, and a block of any size.
+// The console's own calls of the card: a power-up with any settings and password, a block of any size, and a take in either bus mode.
+pub mod response;
+
 use card::Card;
+use card_state::in_spi;
 use console_memory::lent;
 use console_read::SETTINGS;
 use console_read::SettingsRead;
@@ -9,8 +12,10 @@ use replay_answer::answer_line;
 use replay_answer::unreadable;
 use replay_read::behind;
 use replay_read::front;
-use replay_read::hex::unhex;
 use replay_write::Kind;
+use replay_write::write;
+use response::block_answer;
+use response::data_response;
 
 pub fn power(card: Card, memory: &[u8], fields: &[u8], text: &mut [u8]) -> Replayed {
     let read = password(behind(fields, SETTINGS));
@@ -27,14 +32,24 @@ pub fn power(card: Card, memory: &[u8], fields: &[u8], text: &mut [u8]) -> Repla
     }
 }
 
-// A block of up to 520 bytes; the card judges its size.
-pub fn block(card: Card, memory: &mut [u8], digits: &[u8], text: &mut [u8]) -> Replayed {
-    let mut bytes: [u8; 520] = [0; 520];
-    let n = digits.len() / 2;
-    if n <= 520 {
-        if unhex(digits, &mut bytes[0..n]) {
-            return replay_answer::block(card, memory, front(&bytes, n), text);
-        }
+// A block of any size, which the card judges. In SPI mode a data answer is a byte.
+pub fn block(card: Card, memory: &mut [u8], bytes: &[u8], text: &mut [u8]) -> Replayed {
+    let bus = card.core.bus;
+    let mode = bus.mode;
+    let s = card_block_in::block_in(card, bytes, memory);
+    let next = s.card;
+    let answer = s.answer;
+    let byte = data_response(answer);
+    let shown = block_answer(in_spi(mode), answer, byte);
+    Replayed {
+        card: next,
+        wrote: write(Kind::Response, shown, &[byte], text),
     }
-    unreadable(card, text)
+}
+
+// The output buffer, zero before the call, is as long as row 4 asks for in SPI mode.
+pub fn take(card: Card, memory: &[u8], text: &mut [u8]) -> Replayed {
+    let mut out: [u8; 515] = [0; 515];
+    let s = card_take::take(card, memory, &mut out);
+    answer_line(Kind::Block, s, &out, text)
 }

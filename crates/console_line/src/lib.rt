@@ -1,7 +1,7 @@
-// A console's line, played: its own words here, and every other line as in the replay program.
+// A console's line, played.
 use card::Card;
-use console_answer::block;
 use console_answer::power;
+use console_call::call;
 use console_memory::lent;
 use console_memory::show;
 use replay_answer::Replayed;
@@ -23,10 +23,7 @@ fn play(card: Card, memory: &mut [u8], line: &[u8], text: &mut [u8]) -> Replayed
         };
     }
     let n = lent(card.core.settings.blocks, memory.len());
-    if begins(line, b"blk\t") {
-        return block(card, &mut memory[..n], behind(line, 4), text);
-    }
-    replay_line::play(card, &mut memory[..n], line, text)
+    call(card, &mut memory[..n], line, text)
 }
 
 // The line that has arrived, played; its answer goes behind the others.

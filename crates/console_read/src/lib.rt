@@ -1,4 +1,5 @@
 // The settings of a power-up, as its line has them.
+pub mod call;
 pub mod password;
 
 use card::Settings;

@@ -17,6 +17,9 @@ fn main() {
     console(b"protected.in");
     console(b"lock.in");
     console(b"locked.in");
+    console(b"spi.in");
+    console(b"spi-blocks.in");
+    console(b"spi-memory.in");
     console(b"memory.in");
     console(b"sizes.in");
     console(b"lines.in");

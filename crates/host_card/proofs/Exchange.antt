@@ -22,8 +22,9 @@ use Rattle.host.specs.declared.Host.{Host}
 use Rattle.host.specs.Sequence.{row}
 use Rattle.host.specs.Host as Host
 use Rattle.host.specs.Host.{sent, selected, stopped, notReady, frame, sends}
-use Rattle.card.specs.State.{number, ina}
-use Rattle.card.specs.Frame.{Message, silence, r1, r6, plain, block, token, finished, Turn, judge, showSd, byCheck, receive}
+use Rattle.card.specs.State.{number, ina, inSpi}
+use Rattle.card.specs.Frame.{Message, silence, r1, r6, spiR1, plain, block, token, finished, Turn, judge}
+use Rattle.card.specs.Receive.{showSd, byCheck, receiveSd, receive}
 use Rattle.card.specs.Step as Card
 use Rattle.card.specs.Step.{World, Result, commandFrame, wire, replyOf, show}
 use Rattle.card.specs.History.{Sound}
@@ -52,17 +53,19 @@ unfolding replyOf wire
 heard-wire crc silence out = refl
 heard-wire crc (r1 index word) out = take-at (wire crc (r1 index word)) _ _ refl
 heard-wire crc (r6 rca word) out = take-at (wire crc (r6 rca word)) _ _ refl
+heard-wire crc (spiR1 byte s) out = take-at (wire crc (spiR1 byte s)) _ _ refl
 heard-wire crc (plain s) out = take-at s _ _ refl
 heard-wire crc (block payload) out = take-at (wire crc (block payload)) _ _ refl
 heard-wire crc (token n) out = refl
 heard-wire crc finished out = refl
 
--- the card's turn at a command, awake: the world behind it, and what is heard
+-- the card's turn at a command, in SD mode, awake: the world behind it, and what is heard
 abbrev pub turnAt : World → ℕ → ℕ → Turn
-turnAt w index argument = showSd (w .card .core) (judge (w .card .core) index argument)
+turnAt w index argument = showSd (w .card .core) false (judge (w .card .core) index argument)
 
 pub record Turns (w : World) (index argument : ℕ) (v : World) (heard : List ℕ) : Type 0 where
   pub fit : fits (command .slots) (index ∷ argument ∷ []) ≡ true
+  pub sd : inSpi (w .card .core .bus .mode) ≡ false
   pub awake : eqb (number (w .card .core .bus .state)) ina ≡ false
   pub next : show w (w .card .password) [] (turnAt w index argument) .world ≡ v
   pub says : wire (w .card .line .«com_crc_error») (turnAt w index argument .message) ≡ heard
@@ -74,17 +77,17 @@ module _
     abbrev asked : List ℕ
     asked = image command (index ∷ argument ∷ [])
 
-    runs : Card.step w (commandFrame asked out) ≡ show w (w .card .password) out (turnAt w index argument)
-    unfolding Card.step receive byCheck
+    runs : Card.step w (commandFrame asked false out) ≡ show w (w .card .password) out (turnAt w index argument)
+    unfolding Card.step receive receiveSd byCheck
     runs =
-        framed-runs w asked out s (length-image command _) room
-        ∙ ap (show w (w .card .password) out) (rw (t .awake, frame-good index argument (t .fit)))
+        framed-runs w asked false out s (length-image command _) room
+        ∙ ap (show w (w .card .password) out) (rw (t .sd, t .awake, frame-good index argument (t .fit)))
 
-    behind : Card.step w (commandFrame asked out) .world ≡ v
+    behind : Card.step w (commandFrame asked false out) .world ≡ v
     unfolding show
     behind = ap (λ (r : Result). r .world) runs ∙ t .next
 
-    hears : heardOf (Card.step w (commandFrame asked out) .answer) (Card.step w (commandFrame asked out) .out) ≡ heard
+    hears : heardOf (Card.step w (commandFrame asked false out) .answer) (Card.step w (commandFrame asked false out) .out) ≡ heard
     unfolding show
     hears =
         ap (λ (r : Result). heardOf (r .answer) (r .out)) runs
@@ -98,7 +101,7 @@ abbrev goesOn : ℕ → Buffers → World → Host.Result → Meeting
 goesOn n b w r = elim (r .answer) [
   | done word ↦ elim word [
     | sent k ↦
-        let c = Card.step w (commandFrame (take k (r .out)) (b .card (suc n))) in
+        let c = Card.step w (commandFrame (take k (r .out)) false (b .card (suc n))) in
         joined n b (r .host) (c .world) (heardOf (c .answer) (c .out))
     | selected ↦ meeting r w (suc n)
     | stopped k reason ↦ meeting r w (suc n)
@@ -115,8 +118,8 @@ module _ (P : Meeting → Type 0) (n : ℕ) (b : Buffers) (h : Host) (w v : Worl
   exchange s e t then =
       let r = row k (f .rca) in
       let whole = take-at (frame r) (drop (length (frame r)) (b .host (suc n))) (length (frame r)) refl in
-      let next : Card.step w (commandFrame (frame r) (b .card (suc n))) .world ≡ v =
+      let next : Card.step w (commandFrame (frame r) false (b .card (suc n))) .world ≡ v =
       behind w v (r .index) (r .argument) heard (b .card (suc n)) s (b .cardRoom (suc n)) t in
       subst (λ (x : Host.Result). P (goesOn n b w x)) (sym e)
       (rw (whole, next, hears w v (r .index) (r .argument) heard (b .card (suc n)) s (b .cardRoom (suc n)) t)
-      (then (subst Sound next (keeps-sound w (commandFrame (frame r) (b .card (suc n))) s))))
+      (then (subst Sound next (keeps-sound w (commandFrame (frame r) false (b .card (suc n))) s))))

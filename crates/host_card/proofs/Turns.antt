@@ -13,16 +13,18 @@ use Rattle.wire_response.specs.Response.{r1, r3, r6, r7, r2Bytes}
 use Rattle.wire_response.specs.Status.{shortStatus}
 use Rattle.card.specs.declared.Settings.{Settings}
 use Rattle.card.specs.declared.Password.{Password}
+use Rattle.card.specs.declared.Mode.the-variants.{Sd}
 use Rattle.card.specs.declared.State.{State}
 use Rattle.card.specs.declared.State.the-variants.{Idle, Ready, Ident, Stby, Tran}
 use Rattle.card.specs.Settings.{BLOCK, csdOf, cidBytes, csdBytes}
 use Rattle.card.specs.Record.{noErase}
-use Rattle.card.specs.State.{arrive}
+use Rattle.card.specs.State.{numberIn, arrive}
 use Rattle.card.specs.Status.{noBits, status}
-use Rattle.card.specs.Table.{row, fits as fitsRow, find, commandOf, has, lead, legal, accepts, after}
-use Rattle.card.specs.Execute.{sendOpCond, settled, runAt}
+use Rattle.card.specs.Table.{row, fits as fitsRow, find, own, commandOf, moves, has, lead, legal, accepts, after}
+use Rattle.card.specs.Execute.{sendOpCond, sdSendOpCond, settled, runAt}
 use Rattle.card.specs.Effects.{affected}
-use Rattle.card.specs.Frame.{judge, messageOf, cleared, showSd}
+use Rattle.card.specs.Frame.{judge, messageOf, cleared}
+use Rattle.card.specs.Receive.{shownSd, showSd}
 use Rattle.card.specs.Step.{World, world, line, wire, flagged, show}
 use Rattle.host_card.proofs.Exchange.{Turns}
 
@@ -60,7 +62,7 @@ module _ (s : Settings) (p : Password) (marks memory : List ℕ) where
     core = record {
       settings = s;
       csd = csdOf s;
-      bus = record { state = state; rca = rca; published = rca; polls = polls; app = app };
+      bus = record { mode = Sd; state = state; rca = rca; published = rca; polls = polls; app = app };
       kept = noBits;
       erase = noErase;
       length = BLOCK;
@@ -86,33 +88,33 @@ module _ (s : Settings) (p : Password) (marks memory : List ℕ) where
 
   -- those whose answer shows the lock, or might
   appCmd-turns : (locked : Bool) (q : ℕ) → Turns (at locked Idle 0 q false) 55 0 (at locked Idle 0 q true) (marked locked)
-  unfolding fits shortStatus number bits judge commandOf find fitsRow row legal accepts has lead after arrive settled runAt sendOpCond showSd cleared messageOf show wire flagged affected status
-  appCmd-turns false q = record { fit = refl; awake = refl; next = refl; says = refl }
-  appCmd-turns true q = record { fit = refl; awake = refl; next = refl; says = refl }
+  unfolding fits shortStatus number bits judge own commandOf find fitsRow row moves numberIn legal accepts has lead after arrive settled runAt sdSendOpCond sendOpCond shownSd showSd cleared messageOf show wire flagged affected status
+  appCmd-turns false q = record { fit = refl; sd = refl; awake = refl; next = refl; says = refl }
+  appCmd-turns true q = record { fit = refl; sd = refl; awake = refl; next = refl; says = refl }
 
   sendRelativeAddr-turns : (locked : Bool) → Turns (at locked Ident 0 0 false) 3 0 (at locked Stby 1 0 false) published
-  unfolding fits shortStatus number bits judge commandOf find fitsRow row legal accepts has lead after arrive settled runAt sendOpCond showSd cleared messageOf show wire flagged affected status
-  sendRelativeAddr-turns false = record { fit = refl; awake = refl; next = refl; says = refl }
-  sendRelativeAddr-turns true = record { fit = refl; awake = refl; next = refl; says = refl }
+  unfolding fits shortStatus number bits judge own commandOf find fitsRow row moves numberIn legal accepts has lead after arrive settled runAt sdSendOpCond sendOpCond shownSd showSd cleared messageOf show wire flagged affected status
+  sendRelativeAddr-turns false = record { fit = refl; sd = refl; awake = refl; next = refl; says = refl }
+  sendRelativeAddr-turns true = record { fit = refl; sd = refl; awake = refl; next = refl; says = refl }
 
   selectCard-turns : (locked : Bool) → Turns (at locked Stby 1 0 false) 7 0x10000 (at locked Tran 1 0 false) (chosen locked)
-  unfolding fits shortStatus number bits judge commandOf find fitsRow row legal accepts has lead after arrive settled runAt sendOpCond showSd cleared messageOf show wire flagged affected status
-  selectCard-turns false = record { fit = refl; awake = refl; next = refl; says = refl }
-  selectCard-turns true = record { fit = refl; awake = refl; next = refl; says = refl }
+  unfolding fits shortStatus number bits judge own commandOf find fitsRow row moves numberIn legal accepts has lead after arrive settled runAt sdSendOpCond sendOpCond shownSd showSd cleared messageOf show wire flagged affected status
+  selectCard-turns false = record { fit = refl; sd = refl; awake = refl; next = refl; says = refl }
+  selectCard-turns true = record { fit = refl; sd = refl; awake = refl; next = refl; says = refl }
 
   pub answers : (locked : Bool) → Answers locked
-  unfolding fits shortStatus number bits judge commandOf find fitsRow row legal accepts has lead after arrive settled runAt sendOpCond showSd cleared messageOf show wire flagged affected status
+  unfolding fits shortStatus number bits judge own commandOf find fitsRow row moves numberIn legal accepts has lead after arrive settled runAt sdSendOpCond sendOpCond shownSd showSd cleared messageOf show wire flagged affected status
   answers locked = record {
-    goIdleState = record { fit = refl; awake = refl; next = refl; says = refl };
-    sendIfCond = λ q. record { fit = refl; awake = refl; next = refl; says = refl };
+    goIdleState = record { fit = refl; sd = refl; awake = refl; next = refl; says = refl };
+    sendIfCond = λ q. record { fit = refl; sd = refl; awake = refl; next = refl; says = refl };
     appCmd = appCmd-turns locked;
     stillBusy = λ q.
         let some : eqb (suc q) 0 ≡ false = ne-eqb (suc q) 0 (λ e. omega arith) in
         let fewer : suc q - 1 ≡ q = omega arith in
-        record { fit = refl; awake = refl; next = rw (some, fewer); says = rw some };
-    ready = record { fit = refl; awake = refl; next = refl; says = refl };
-    allSendCid = record { fit = refl; awake = refl; next = refl; says = refl };
+        record { fit = refl; sd = refl; awake = refl; next = rw (some, fewer); says = rw some };
+    ready = record { fit = refl; sd = refl; awake = refl; next = refl; says = refl };
+    allSendCid = record { fit = refl; sd = refl; awake = refl; next = refl; says = refl };
     sendRelativeAddr = sendRelativeAddr-turns locked;
-    sendCsd = record { fit = refl; awake = refl; next = refl; says = refl };
+    sendCsd = record { fit = refl; sd = refl; awake = refl; next = refl; says = refl };
     selectCard = selectCard-turns locked;
   }

@@ -1,6 +1,7 @@
 -- Host and card joined, each fed the other's last word (02, order 2): the host's steps, and on the card the step that the histories
--- of demand 3 run.
+-- of demand 3 run, with chip select high.
 use mathlib.Core.Path.{_≡_}
+use mathlib.Core.Bool.{false}
 use mathlib.Core.List.{List, []}
 use Prim.Native.Nat.{ℕ, zero, suc, _+_, _*_, _≤_}
 use lib.ListN.{length, take}
@@ -50,7 +51,7 @@ joined (suc n) b h w reply =
     elim (r .answer) [
       | done word ↦ elim word [
         | sent k ↦
-            let c = Card.step w (commandFrame (take k (r .out)) (b .card (suc n))) in
+            let c = Card.step w (commandFrame (take k (r .out)) false (b .card (suc n))) in
             joined n b (r .host) (c .world) (heardOf (c .answer) (c .out))
         | selected ↦ meeting r w (suc n)
         | stopped k reason ↦ meeting r w (suc n)

@@ -1,5 +1,5 @@
 -- Line by line: each line of input gives one call of the step that the histories run, and one line of output.
-use mathlib.Core.Bool.{cond}
+use mathlib.Core.Bool.{false, cond}
 use mathlib.Core.List.{List}
 use Prim.Native.Nat.{ℕ}
 use lib.Dec.{ltb}
@@ -12,9 +12,9 @@ use Rattle.replay_write.specs.declared.Kind.the-variants.{Response, Block}
 use Rattle.replay_write.specs.Write.{refusal, ROOM}
 use Rattle.replay_answer.specs.Played.{Played, Shown, played, onText}
 
--- the output buffers are zero before each call, and as long as row 4 asks for
+-- every frame comes with chip select high; the output buffers are zero before each call, and as long as row 4 asks for in SD mode
 unfoldable pub play : World → Request → Played
-play w (cmd frame) = played Response (seen (step w (commandFrame frame (replicate 17 0))))
+play w (cmd frame) = played Response (seen (step w (commandFrame frame false (replicate 17 0))))
 play w (blk s) = played Response (seen (step w (blockIn s)))
 play w bareTake = played Block (seen (step w (takeBlock (replicate 514 0))))
 play w bareOver = played Response (seen (step w busyOver))

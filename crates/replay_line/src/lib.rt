@@ -1,6 +1,6 @@
 // The replay of lines on the card: each line of input gives one call, and one line of output.
 ghost use mathlib.Core.Path.{_≡_};
-ghost use lib.ListN.{take, replicate};
+ghost use lib.ListN.{replicate};
 ghost use Rattle.card.specs.Step.{commandFrame};
 ghost use Rattle.card_call.specs.Seen.{stepped};
 ghost use Rattle.replay_write.specs.declared.Kind.the-variants.{Response};
@@ -15,17 +15,18 @@ use replay_answer::over;
 use replay_answer::take;
 use replay_answer::unreadable;
 use replay_read::Word;
+use replay_read::front;
 use replay_write::Kind;
 
-// A frame, in the first six bytes. Its output buffer is zero before the call.
-pub fn command(card: Card, memory: &mut [u8], bytes: [u8; 514], text: &mut [u8]) -> Replayed
+// A frame, with chip select low or high. Its output buffer is zero before the call.
+pub fn command(card: Card, memory: &mut [u8], frame: &[u8], low: bool, text: &mut [u8]) -> Replayed
     ensures { λ r.
         ⌜ shown r (now (memory .exit)) (now (text .exit))
-        ≡ onText (played Response (stepped card (now (memory .entry)) (commandFrame (take 6 bytes) (replicate 17 0))))
+        ≡ onText (played Response (stepped card (now (memory .entry)) (commandFrame (now (frame .entry)) low (replicate 17 0))))
         (now (text .entry)) ⌝ }
 {
     let mut out: [u8; 17] = [0; 17];
-    let s = card_command::command_frame(card, &bytes[0..6], memory, &mut out);
+    let s = card_command::command_frame(card, frame, low, memory, &mut out);
     answer_line(Kind::Response, s, &out, text)
 }
 
@@ -34,7 +35,7 @@ pub fn play(card: Card, memory: &mut [u8], line: &[u8], text: &mut [u8]) -> Repl
         ⌜ shown r (now (memory .exit)) (now (text .exit))
         ≡ playLine (record { card = card; memory = now (memory .entry) }) (now (line .entry)) (now (text .entry)) ⌝ }
 {
-    if text.len() < 1033 {
+    if text.len() < 1035 {
         return Replayed {
             card: card,
             wrote: Encoded::Refused(4),
@@ -44,7 +45,7 @@ pub fn play(card: Card, memory: &mut [u8], line: &[u8], text: &mut [u8]) -> Repl
     let bytes = input.bytes;
     let word = input.word;
     match word {
-        Word::Cmd => command(card, memory, bytes, text),
+        Word::Cmd => command(card, memory, front(&bytes, 6), false, text),
         Word::Blk => block(card, memory, &bytes, text),
         Word::Take => take(card, memory, text),
         Word::Over => over(card, memory, text),

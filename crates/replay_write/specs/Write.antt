@@ -53,9 +53,9 @@ writeLine kind a out text = fitted (written kind a out) text
 
 -- ---- lines that are gathered in one text
 
--- the longest line of output: a word, a tab, 1,028 digits, a newline
+-- the longest line of output: a word, a tab, 1,030 digits, a newline; a block of SPI mode has so many
 abbrev pub ROOM : ℕ
-ROOM = 1033
+ROOM = 1035
 
 -- how many bytes were written; a refusal wrote none
 abbrev pub size : Outcome ℕ → ℕ

@@ -39,7 +39,7 @@ pub fn write(kind: Kind, answer: Answer, out: &[u8], text: &mut [u8]) -> Encoded
 }
 
 // The longest line of output, with its newline.
-pub const ROOM: usize = 1033;
+pub const ROOM: usize = 1035;
 
 // Where a text ends, of so many bytes, with the line that was written at `at`.
 pub fn end(at: usize, e: Encoded, bytes: usize) -> usize

@@ -2,7 +2,7 @@
 use mathlib.Core.Bool.{cond}
 use mathlib.Core.List.{List, [], _∷_}
 use Prim.Native.Nat.{ℕ, zero, suc, _+_}
-use lib.Dec.{eqb}
+use lib.Dec.{eqb, leb}
 use Rattle.codec.specs.Answer.{Outcome, done, refused}
 use Rattle.card.specs.Data.{ACCEPTED}
 use Rattle.card.specs.Step.{World, Call, blockIn, Reply, silent, sent, answered, over, step}
@@ -14,10 +14,10 @@ READ = 0x52 ∷ 0 ∷ 0 ∷ 0 ∷ 0 ∷ 0xE1 ∷ []
 abbrev pub WRITE : List ℕ
 WRITE = 0x59 ∷ 0 ∷ 0 ∷ 0 ∷ 0 ∷ 0x03 ∷ []
 
--- a whole block was sent, or one was accepted
+-- a whole block was sent, behind its token or not, or one was accepted
 abbrev pub right : Outcome Reply → ℕ
 right (done silent) = 0
-right (done (sent n)) = cond (eqb n 514) 1 0
+right (done (sent n)) = cond (leb 514 n) 1 0
 right (done (answered n)) = cond (eqb n ACCEPTED) 1 0
 right (done over) = 0
 right (refused k) = 0

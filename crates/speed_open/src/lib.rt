@@ -1,5 +1,6 @@
-// A card that is brought to tran and given a command.
+// A card that is brought up in either bus mode, with checks on, and given a command.
 ghost use mathlib.Core.Path.{_≡_};
+ghost use mathlib.Core.Bool.{cond};
 ghost use Rattle.speed_open.specs.Begun.{settings, powered, heard, begun};
 ghost use Rattle.card.specs.Step.{world};
 use card::Card;
@@ -41,25 +42,44 @@ fn powered(memory: &[u8]) -> Card
     s.card
 }
 
+// The frame of SPI mode, or that of SD mode.
+fn pick(spi: bool, a: [u8; 6], b: [u8; 6]) -> [u8; 6]
+    ensures { λ r. ⌜ r ≡ cond spi a b ⌝ }
+{
+    if spi {
+        return a;
+    }
+    b
+}
+
 // The record after a frame.
-fn hear(card: Card, frame: [u8; 6], memory: &mut [u8]) -> Card
+fn hear(card: Card, spi: bool, frame: [u8; 6], memory: &mut [u8]) -> Card
     ensures { λ r.
-        ⌜ world r (now (memory .exit)) ≡ heard (world card (now (memory .entry))) frame ⌝ }
+        ⌜ world r (now (memory .exit)) ≡ heard (world card (now (memory .entry))) spi frame ⌝ }
 {
     let mut out: [u8; 17] = [0; 17];
-    let s = card_command::command_frame(card, &frame, memory, &mut out);
+    let s = card_command::command_frame(card, &frame, spi, memory, &mut out);
     s.card
 }
 
-// To tran by 55, A41, 2, 3, 7, and then a frame.
-pub fn open(frame: [u8; 6], memory: &mut [u8]) -> Card
-    ensures { λ r. ⌜ world r (now (memory .exit)) ≡ begun frame (now (memory .entry)) ⌝ }
+// By 55, A41, 2, 3, 7, or in SPI mode by 0, 55, A41, 59 and 13; and then a frame.
+pub fn open(spi: bool, frame: [u8; 6], memory: &mut [u8]) -> Card
+    ensures { λ r. ⌜ world r (now (memory .exit)) ≡ begun spi frame (now (memory .entry)) ⌝ }
 {
+    let f1 = pick(spi, [0x40, 0, 0, 0, 0, 0x95], [0x77, 0, 0, 0, 0, 0x65]);
+    let f2 = pick(
+        spi,
+        [0x77, 0, 0, 0, 0, 0x65],
+        [0x69, 0, 0xFF, 0x80, 0, 0x85],
+    );
+    let f3 = pick(spi, [0x69, 0, 0, 0, 0, 0xE5], [0x42, 0, 0, 0, 0, 0x4D]);
+    let f4 = pick(spi, [0x7B, 0, 0, 0, 1, 0x83], [0x43, 0, 0, 0, 0, 0x21]);
+    let f5 = pick(spi, [0x4D, 0, 0, 0, 0, 0x0D], [0x47, 0, 1, 0, 0, 0xDD]);
     let card0 = powered(memory);
-    let card1 = hear(card0, [0x77, 0, 0, 0, 0, 0x65], memory);
-    let card2 = hear(card1, [0x69, 0, 0xFF, 0x80, 0, 0x85], memory);
-    let card3 = hear(card2, [0x42, 0, 0, 0, 0, 0x4D], memory);
-    let card4 = hear(card3, [0x43, 0, 0, 0, 0, 0x21], memory);
-    let card5 = hear(card4, [0x47, 0, 1, 0, 0, 0xDD], memory);
-    hear(card5, frame, memory)
+    let card1 = hear(card0, spi, f1, memory);
+    let card2 = hear(card1, spi, f2, memory);
+    let card3 = hear(card2, spi, f3, memory);
+    let card4 = hear(card3, spi, f4, memory);
+    let card5 = hear(card4, spi, f5, memory);
+    hear(card5, spi, frame, memory)
 }

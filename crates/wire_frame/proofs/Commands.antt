@@ -1,6 +1,6 @@
 -- The command frame: its first byte has start bit 0, transmission bit 1 and the index; its check comes after these.
 use mathlib.Core.Path.{_≡_, refl, sym, ap, ap₂, _∙_}
-use mathlib.Core.Bool.{Bool, true, false, cond, _&&_, and-eq-true-iff, and-true}
+use mathlib.Core.Bool.{Bool, true, false, cond, not, _&&_, _||_, and-eq-true-iff, and-true, or-false}
 use mathlib.Core.List.{List, [], _∷_, _++_}
 use Prim.Native.Nat.{ℕ, _/_, _%_, _^_, _<_}
 use native.Mathlib.Nat.{mod-eq-of-lt}
@@ -17,8 +17,8 @@ use Rattle.codec.specs.Layout.{Slot, field, fixed, width, write, read, judged, 
 use Rattle.codec.specs.Format.{right, encode, decode}
 use Rattle.codec.proofs.Bits.{test-eq, both}
 use Rattle.codec.proofs.Words.{within, judgedIn, read-word, judged-word}
-use Rattle.wire_frame.specs.Command.{command, good, frameCheck, frameOutcome}
-use Rattle.wire_frame.specs.Claims.{FrameDecoded}
+use Rattle.wire_frame.specs.Command.{command, good, frameCheck, passedOver, frameCheckBy, frameOutcome}
+use Rattle.wire_frame.specs.Claims.{FrameDecoded, CheckedBy}
 use Rattle.wire_frame.specs.Frame.{closing, encodeFrame}
 use Rattle.wire_frame.specs.declared.command.FrameCheck.{FrameCheck}
 use Rattle.wire_frame.specs.declared.command.FrameCheck.the-variants.{Good, Size, Start, Check}
@@ -67,32 +67,59 @@ read-command s h =
 
 -- ---- the frame check
 
+-- with checks on nothing is passed over; with checks off only what was no good
+pub checked-by : CheckedBy
+unfolding frameCheck frameCheckBy
+checked-by = record { on = on; good = stays }
+  where
+    on : (s : List ℕ) → frameCheckBy true s ≡ frameCheck s
+    on s =
+        ap (λ (q : Bool). cond (eqb (length s) 6) (cond (judged (command .slots) (bitsOf s)) (cond q (good (read (command .slots) (bitsOf s))) Check) Start) Size)
+        (or-false (right command s))
+
+    cases : (t j q r : Bool) (k : FrameCheck) (index argument : ℕ) → cond t (cond j (cond q k Check) Start) Size ≡ Good index argument
+        → cond t (cond j (cond (q || r) k Check) Start) Size ≡ Good index argument
+    cases true true true r k index argument e = e
+    cases true true false r k index argument e = absurd (let z : _≡_ {A = ℕ} 0 1 = cc in omega arith)
+    cases true false q r k index argument e = e
+    cases false j q r k index argument e = e
+
+    stays : (checks : Bool) (s : List ℕ) (index argument : ℕ) → frameCheck s ≡ Good index argument → frameCheckBy checks s ≡ Good index argument
+    stays checks s index argument e =
+        cases (eqb (length s) 6) (judged (command .slots) (bitsOf s)) (right command s) (passedOver checks s) _ index argument e
+
 -- a check that is looked at only behind a right start
-behind : (p q : Bool) (k : FrameCheck) → cond p (cond (p && q) k Check) Start ≡ cond p (cond q k Check) Start
-behind true q k = refl
-behind false q k = refl
+behind : (p q r : Bool) (k : FrameCheck) → cond p (cond ((p && q) || r) k Check) Start ≡ cond p (cond (q || r) k Check) Start
+behind true q r k = refl
+behind false q r k = refl
 
 -- the command of six bytes
 abbrev pub found : List ℕ → FrameCheck
 found s = Good (bitAnd (getD s 0 0) 63) (content s)
 
-module _ (s : List ℕ) (h : length s ≡ 6) (b : Bytes s) where
-  pub frameCheck-start : frameCheck s ≡ cond (eqb (getD s 0 0 / 2 ^ 6) 1) (cond (right command s) (found s) Check) Start
-  unfolding frameCheck
+-- the last byte of six need not be right
+abbrev pub passed : Bool → List ℕ → Bool
+passed checks s = not checks && (not (eqb (bitAnd (getD s 0 0) 63) 8) && eqb (getD s 5 0 % 2) 1)
+
+module _ (checks : Bool) (s : List ℕ) (h : length s ≡ 6) (b : Bytes s) where
+  pub frameCheck-start : frameCheckBy checks s ≡ cond (eqb (getD s 0 0 / 2 ^ 6) 1) (cond (right command s || passed checks s) (found s) Check) Start
+  unfolding frameCheckBy
   frameCheck-start =
-      ap₂ (λ (t j : Bool). cond t (cond j (cond (right command s) (good (read (command .slots) (bitsOf s))) Check) Start) Size)
+      ap₂ (λ (t j : Bool). cond t (cond j (cond (right command s || passedOver checks s) (good (read (command .slots) (bitsOf s))) Check) Start) Size)
       (eq-eqb (length s) 6 h) (judged-command s h b)
-      ∙ ap (λ (fs : List ℕ). cond (eqb (getD s 0 0 / 2 ^ 6) 1) (cond (right command s) (good fs) Check) Start) (read-command s h)
+      ∙ ap (λ (fs : List ℕ). cond (eqb (getD s 0 0 / 2 ^ 6) 1)
+      (cond (right command s || (not checks && (not (eqb (getD fs 0 0) 8) && eqb (getD s 5 0 % 2) 1))) (good fs) Check) Start)
+      (read-command s h)
 
   pub frameCheck-bytes : (c : ℕ) → c < 256 → bits 8 c ≡ crc poly7 (bitsOf (take 5 s)) ++ (true ∷ [])
-      → frameCheck s ≡ cond (eqb (getD s 0 0 / 2 ^ 6) 1) (cond (eqb (getD s 5 0) c) (found s) Check) Start
+      → frameCheckBy checks s ≡ cond (eqb (getD s 0 0 / 2 ^ 6) 1) (cond (eqb (getD s 5 0) c || passed checks s) (found s) Check) Start
   unfolding closing width
   frameCheck-bytes c hc e =
       let p = eqb (getD s 0 0 / 2 ^ 6) 1 in
       frameCheck-start
-      ∙ ap (λ (q : Bool). cond p (cond q (found s) Check) Start)
+      ∙ ap (λ (q : Bool). cond p (cond (q || passed checks s) (found s) Check) Start)
       (right-frame (command .slots) s refl ∙ ap₂ (λ (t q : Bool). t && q) (judged-command s h b) (same-last true s c h b hc e))
-      ∙ behind p (eqb (getD s 5 0) c) (found s)
+      ∙ behind p (eqb (getD s 5 0) c) (passed checks s) (found s)
 
 -- the decoder answers by the check
 pub frame-decoded : FrameDecoded

@@ -1,7 +1,7 @@
 -- Command frames: start 0, transmission 1, 6-bit index, 32-bit argument, CRC7, end 1.
-use mathlib.Core.Bool.{cond}
+use mathlib.Core.Bool.{Bool, cond, not, _&&_, _||_}
 use mathlib.Core.List.{List, [], _∷_}
-use Prim.Native.Nat.{ℕ}
+use Prim.Native.Nat.{ℕ, _%_}
 use lib.Dec.{eqb}
 use lib.ListN.{length, getD}
 use Rattle.crc.specs.Bits.{bitsOf}
@@ -29,6 +29,15 @@ unfoldable pub frameCheck : List ℕ → FrameCheck
 frameCheck s =
     let fs = read (command .slots) (bitsOf s) in
     cond (eqb (length s) 6) (cond (judged (command .slots) (bitsOf s)) (cond (right command s) (good fs) Check) Start) Size
+
+-- SPI mode (02, order 5): with checks off a wrong CRC7 is passed over; that of 8 is always judged, and so is every end bit
+abbrev pub passedOver : Bool → List ℕ → Bool
+passedOver checks s = not checks && (not (eqb (getD (read (command .slots) (bitsOf s)) 0 0) 8) && eqb (getD s 5 0 % 2) 1)
+
+unfoldable pub frameCheckBy : Bool → List ℕ → FrameCheck
+frameCheckBy checks s =
+    let fs = read (command .slots) (bitsOf s) in
+    cond (eqb (length s) 6) (cond (judged (command .slots) (bitsOf s)) (cond (right command s || passedOver checks s) (good fs) Check) Start) Size
 
 -- 01's numbers and values of the answers
 abbrev pub frameOutcome : FrameCheck → Outcome (List ℕ)

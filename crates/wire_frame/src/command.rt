@@ -1,9 +1,12 @@
 // Command frames, and the frame check that decoder and card share.
 ghost use mathlib.Core.Path.{_≡_};
+ghost use mathlib.Core.Bool.{not, _&&_, _||_};
 ghost use mathlib.Core.List.{[], _∷_};
+ghost use Prim.Native.Nat.{_%_};
+ghost use lib.Dec.{eqb};
 ghost use Rattle.codec.specs.Answer.{encoding};
 ghost use Rattle.codec.specs.Format.{encode, decode};
-ghost use Rattle.wire_frame.specs.Command.{command, commandRead, frameCheck};
+ghost use Rattle.wire_frame.specs.Command.{command, commandRead, frameCheck, frameCheckBy};
 use codec::Encoded;
 
 // A frame's command, or what is wrong with it; the card treats the kinds differently.
@@ -22,8 +25,25 @@ pub enum CommandRead {
     Refused(u8),
 }
 
-pub fn check(s: &[u8]) -> FrameCheck
-    ensures { λ r. ⌜ r ≡ frameCheck (now (s .entry)) ⌝ }
+// Whether the last byte is right, or its check is passed over: with checks off, but for command 8, and behind a right end bit.
+fn last_right(checks: bool, index: u8, last: u8, seal: u8) -> bool
+    ensures { λ r. ⌜ r ≡ (eqb last seal || (not checks && (not (eqb index 8) && eqb (last % 2) 1))) ⌝ }
+{
+    if last == seal {
+        return true;
+    }
+    if checks {
+        return false;
+    }
+    if index == 8 {
+        return false;
+    }
+    last % 2 == 1
+}
+
+// The frame check, with checks on or off.
+pub fn check_by(checks: bool, s: &[u8]) -> FrameCheck
+    ensures { λ r. ⌜ r ≡ frameCheckBy checks (now (s .entry)) ⌝ }
 {
     if s.len() != 6 {
         return FrameCheck::Size;
@@ -31,13 +51,19 @@ pub fn check(s: &[u8]) -> FrameCheck
     if s[0] >> 6 != 1 {
         return FrameCheck::Start;
     }
-    if s[5] != codec::seal(&s[0..5]) {
+    if !last_right(checks, s[0] & 0x3F, s[5], codec::seal(&s[0..5])) {
         return FrameCheck::Check;
     }
     FrameCheck::Good {
         index: s[0] & 0x3F,
         argument: codec::word32(&s[1..5]),
     }
+}
+
+pub fn check(s: &[u8]) -> FrameCheck
+    ensures { λ r. ⌜ r ≡ frameCheck (now (s .entry)) ⌝ }
+{
+    check_by(true, s)
 }
 
 pub fn encode(index: u8, argument: u32, out: &mut [u8]) -> Encoded

@@ -23,7 +23,7 @@ show-requires c κs =
     let r = c .before .before in
     let n = r .before .before in
     let a = start n .args in
-    shows (a .card) (a .frame .now) (a .memory .now) (a .out .now)
+    shows (a .card) (a .low) (a .frame .now) (a .memory .now) (a .out .now)
     (none-applies _ _ _ _ (n .refusal .ensures) (n .before .before .rows .ensures) (r .before .if1 .left)) (r .receive .result) (r .receive .ensures)
 
 ran : tie.Need-returns-2

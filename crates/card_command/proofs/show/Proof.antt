@@ -25,7 +25,7 @@ show-spec =
     (λ c. search needs)
     (λ c.
     let r = c .before .before .before in
-    let a = r .before .before .before .before .before .before .before in
+    let a = r .before .before .before .before .before .before in
     let w = a .before .before .before .before .before in
     let start = w .before .before .before .before .before in
     shown (start .args .card) _ _ (start .args .turn) (r .respond .result) _ _ _ _ _ (start .pre) (w .whole .ensures) (a .apply .ensures) (r .respond .ensures)

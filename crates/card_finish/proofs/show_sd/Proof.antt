@@ -1,5 +1,5 @@
 -- By the verdict.
-use mathlib.Core.Path.{sym, ap, _∙_}
+use mathlib.Core.Path.{ap, _∙_}
 use mathlib.Core.Bool.{false}
 use Rattle.card.specs.declared.Core.{Core}
 use Rattle.card.specs.declared.done.Flag.the-variants.{Keep}
@@ -23,16 +23,13 @@ show-sd-spec =
     (λ c κs. search needs)
     (λ c. search needs)
     (λ c κs. search needs)
-    (λ c κs. search needs)
     (λ c.
     let r = c .before .before in
     c .quiet .ensures
     ∙ ap (λ (x : Core). quiet x Keep) (c .before .with-app .ensures ∙ ap (λ (x : Core). withApp x false) (r .raise .ensures))
-    ∙ sym (not-allowed _ _ (r .before .enum-told .given .1)))
+    ∙ not-allowed _ _ _ (r .before .enum-told .given .1))
     (λ c.
     c .quiet2 .ensures
     ∙ ap (λ (x : Core). quiet x Keep) (c .before .with-app2 .ensures)
-    ∙ sym (other-card _ _ (c .before .before .enum-told2 .given .1)))
-    (λ c.
-    c .finish .ensures
-    ∙ ran _ _ _ (c .before .number .ensures .0) (c .before .before .before .before .enum-told3 .given .1)))
+    ∙ other-card _ _ _ (c .before .before .enum-told2 .given .1))
+    (λ c. c .shown-sd .ensures ∙ ran _ _ _ (c .before .before .enum-told3 .given .1)))

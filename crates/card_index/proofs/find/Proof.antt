@@ -11,10 +11,10 @@ use Rattle.card_index.proofs.find.Tie as tie
 
 abbrev Inv-loop : tie.InvT-loop
 Inv-loop application index own other all i₀ i =
-    (i ≤ 30) × (find (drop i commands) application index own other ≡ find commands application index own other)
+    (i ≤ 32) × (find (drop i commands) application index own other ≡ find commands application index own other)
 
 abbrev μ-loop : tie.MeasureT-loop
-μ-loop application index own other all i₀ i = 30 - i
+μ-loop application index own other all i₀ i = 32 - i
 
 pub find-spec : {M : Type 1} → statement M
 find-spec =

@@ -1,41 +1,16 @@
--- In ina, or by the frame check.
-use mathlib.Core.Path.{ap, _∙_}
+-- By the mode.
+use mathlib.Core.Path.{sym, _∙_}
 use borrow.Author.Needs.{needs}
-use Rattle.wire_frame.specs.declared.command.FrameCheck.the-variants.{Good, Size, Start, Check}
-use Rattle.card.specs.Frame.{showSd, byCheck}
-use Rattle.card_receive.proofs.Received.{asleep, awake}
+use Rattle.card_receive.proofs.Received.{in-sd, in-spi}
 use Rattle.card_receive.proofs.receive.Statement.{statement}
 use Rattle.card_receive.proofs.receive.Tie as tie
 
 pub receive-spec : {M : Type 1} → statement M
-unfolding byCheck
 receive-spec =
     tie.close
     (tie.spec
     (λ c κs. search needs)
     (λ c κs. search needs)
-    (λ c. c .quiet .ensures ∙ asleep _ _ _ (c .before .before .number .ensures .0) (c .before .if1 .taken))
+    (λ c. c .receive-spi .ensures ∙ in-spi _ _ _ (sym (c .before .before .in-spi .ensures) ∙ c .before .if1 .taken))
     (λ c κs. search needs)
-    (λ c. search needs)
-    (λ c κs. search needs)
-    (λ c κs. search needs)
-    (λ c. search needs)
-    (λ c κs. search needs)
-    (λ c. search needs)
-    (λ c κs. search needs)
-    (λ c. search needs)
-    (λ c κs. search needs)
-    (λ c.
-    let k = c .before .before .before .before .before in
-    c .show-sd .ensures
-    ∙ ap (showSd _) (c .before .judge .ensures)
-    ∙ awake _ _ _ (k .before .before .number .ensures .0) (k .before .if1 .left) (Good _ _) _ (c .before .before .before .index .given .1) (k .check .ensures))
-    (λ c.
-    let k = c .before .before .before in
-    c .quiet2 .ensures ∙ awake _ _ _ (k .before .before .number .ensures .0) (k .before .if1 .left) Size _ (c .before .enum-told .given .1) (k .check .ensures))
-    (λ c.
-    let k = c .before .before .before in
-    c .quiet3 .ensures ∙ awake _ _ _ (k .before .before .number .ensures .0) (k .before .if1 .left) Start _ (c .before .enum-told2 .given .1) (k .check .ensures))
-    (λ c.
-    let k = c .before .before .before in
-    c .quiet4 .ensures ∙ awake _ _ _ (k .before .before .number .ensures .0) (k .before .if1 .left) Check _ (c .before .enum-told3 .given .1) (k .check .ensures)))
+    (λ c. c .receive-sd .ensures ∙ in-sd _ _ _ (sym (c .before .before .in-spi .ensures) ∙ c .before .if1 .left)))

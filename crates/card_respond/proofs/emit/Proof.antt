@@ -1,11 +1,12 @@
--- Each response is its own.
+-- By the mode.
 use mathlib.Core.Path.{refl, sym, ap}
+use mathlib.Core.List.{_∷_}
+use Prim.Native.Nat.{ℕ}
 use borrow.Author.Needs.{needs}
-use Rattle.wire_response.specs.Response.{r2Bytes}
 use Rattle.card.specs.Frame as Frame
 use Rattle.card.specs.Step.{wire, replyOf}
-use Rattle.card_respond.specs.Sent.{messageBy}
-use Rattle.card_respond.proofs.Sending.{shows, shows-silence}
+use Rattle.card_respond.specs.Sent.{message, behind}
+use Rattle.card_respond.proofs.Sending.{shows}
 use Rattle.card_respond.proofs.emit.Statement.{statement}
 use Rattle.card_respond.proofs.emit.Tie as tie
 
@@ -15,42 +16,23 @@ emit-spec =
     tie.close
     (tie.spec
     (λ c. search needs)
-    (λ c. search needs)
-    (λ c κs. search needs)
-    (λ c. search needs)
-    (λ c κs. search needs)
-    (λ c. search needs)
-    (λ c κs. search needs)
     (λ c κs. search needs)
     (λ c. search needs)
     (λ c κs. search needs)
     (λ c κs. search needs)
     (λ c. search needs)
     (λ c κs. search needs)
-    (λ c. search needs)
-    (λ c κs. search needs)
-    (λ c. shows-silence _ _ _ (ap (messageBy _ _ _) (c .enum-told .given .1)))
     (λ c. search needs)
     (λ c.
     let send = c .before .before in
-    shows _ _ (Frame.r1 _ _) (ap (messageBy _ _ _) (send .before .before .enum-told2 .given .1)) _ _ _ _ refl refl (send .send-r1 .ensures))
+    rw (send .before .before .before .m .given .1) (send .emit-sd .ensures))
     (λ c. search needs)
     (λ c.
     let send = c .before .before in
-    shows _ _ (Frame.r6 _ _) (ap (messageBy _ _ _) (send .before .before .enum-told3 .given .1)) _ _ _ _ refl refl (send .send-r6 .ensures))
+    let r1 = send .before .before in
+    shows _ _ (Frame.spiR1 _ _) (ap (message _) (r1 .before .before .m2 .given .1)) _ _ _ _
+    (ap (λ (n : ℕ). n ∷ behind (r1 .before .before .m2 .given .0 .1 .0)) (sym (r1 .shown-r1 .ensures))) refl (send .emit-spi .ensures))
     (λ c. search needs)
     (λ c.
     let send = c .before .before in
-    shows _ _ (Frame.plain _) (ap (messageBy _ _ _) (send .before .before .before .before .before .enum-told4 .given .1)) _ _ _ _ (ap r2Bytes (sym (send .before .before .sixteen .ensures))) refl (send .send-r2 .ensures))
-    (λ c. search needs)
-    (λ c.
-    let send = c .before .before in
-    shows _ _ (Frame.plain _) (ap (messageBy _ _ _) (send .before .before .before .before .enum-told5 .given .1)) _ _ _ _ (ap r2Bytes (sym (send .before .before .sixteen2 .ensures))) refl (send .send-r22 .ensures))
-    (λ c. search needs)
-    (λ c.
-    let send = c .before .before in
-    shows _ _ (Frame.plain _) (ap (messageBy _ _ _) (send .before .before .before .response .given .1)) _ _ _ _ refl refl (send .send-r3 .ensures))
-    (λ c. search needs)
-    (λ c.
-    let send = c .before .before in
-    shows _ _ (Frame.plain _) (ap (messageBy _ _ _) (send .before .before .before .response2 .given .1)) _ _ _ _ refl refl (send .send-r7 .ensures)))
+    shows _ _ (Frame.plain _) (ap (message _) (send .before .before .before .m3 .given .1)) _ _ _ _ refl refl (send .emit-spi2 .ensures)))

@@ -12,18 +12,21 @@ after-spec =
     (λ c κs. search needs)
     (λ c κs. search needs)
     (λ c κs. search needs)
+    (λ c κs. search needs)
     (λ c.
-    let a = c .before .before .before .before .args in
+    let at = c .before .before in
+    let a = at .before .before .before .args in
     rw (
-      ← after-by (a .command) (a .s) (a .t) _ _ (c .before .before .before .number .ensures .0) (c .before .before .lead .ensures),
+      ← after-by (a .command) (a .bus) _ _ _ (at .before .before .in-spi .ensures) (at .before .number-in .ensures .0) (at .lead .ensures) (a .t),
       eq-eqb _ _ (c .before .if1 .taken),
     )
     (c .arrive .ensures))
     (λ c κs. search needs)
     (λ c.
-    let a = c .before .before .before .before .args in
+    let at = c .before .before in
+    let a = at .before .before .before .args in
     rw (
-      ← after-by (a .command) (a .s) (a .t) _ _ (c .before .before .before .number .ensures .0) (c .before .before .lead .ensures),
+      ← after-by (a .command) (a .bus) _ _ _ (at .before .before .in-spi .ensures) (at .before .number-in .ensures .0) (at .lead .ensures) (a .t),
       ne-eqb _ _ (c .before .if1 .left),
     )
     (c .arrive2 .ensures)))

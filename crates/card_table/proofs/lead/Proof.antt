@@ -1,11 +1,8 @@
--- A digit of the row, by shift and mask.
-use mathlib.Core.Path.{ap, _∙_}
-use Prim.Native.Nat.{_*_, _/_, _%_, _^_}
-use native.Mathlib.Omega.{arith}
+-- A digit of the row, in the column of the mode.
+use mathlib.Core.Path.{_∙_}
+use mathlib.Core.Bool.{true, false}
 use borrow.Author.Needs.{needs}
-use lib.Bits.{and-mask, mask-lt}
-use Rattle.card_table.specs.declared.Columns.{Columns}
-use Rattle.card_table.proofs.Rows.{digit-of}
+use Rattle.card_table.proofs.Rows.{digit-in}
 use Rattle.card_table.proofs.lead.Statement.{statement}
 use Rattle.card_table.proofs.lead.Tie as tie
 
@@ -14,12 +11,13 @@ lead-spec =
     tie.close
     (tie.spec
     (λ c κs. search needs)
-    (λ c. search needs)
-    (λ c. search needs)
-    (λ c. search needs)
-    (λ c. omega (arith, mask-lt (c .before .row .result .moves / 2 ^ (4 * c .before .before .args .from)) 4))
+    (λ c κs. search needs)
     (λ c.
-    let a = c .before .before .args in
-    and-mask (c .before .row .result .moves / 2 ^ (4 * a .from)) 4
-    ∙ ap (λ (r : Columns). r .moves / 2 ^ (4 * a .from) % 16) (c .before .row .ensures)
-    ∙ digit-of (a .command) (a .from) (c .before .before .pre)))
+    let a = c .before .before .before .args in
+    rw (c .before .if1 .taken)
+    (c .digit .ensures ∙ digit-in (a .command) true _ (a .from) (c .before .before .row .ensures) (c .before .before .before .pre)))
+    (λ c κs. search needs)
+    (λ c.
+    let a = c .before .before .before .args in
+    rw (c .before .if1 .left)
+    (c .digit2 .ensures ∙ digit-in (a .command) false _ (a .from) (c .before .before .row .ensures) (c .before .before .before .pre))))

@@ -1,7 +1,6 @@
 -- A transfer is opened.
 use mathlib.Core.Path.{ap, _∙_}
 use Rattle.card.specs.declared.Core.{Core}
-use Rattle.card.specs.declared.done.Response.the-variants.{R1}
 use Rattle.card.specs.Execute.{ran}
 use borrow.Author.Needs.{needs}
 use Rattle.card_transfer.proofs.opened.Statement.{statement}
@@ -13,4 +12,4 @@ opened-spec =
     (tie.spec
     (λ c κs. search needs)
     (λ c κs. search needs)
-    (λ c. c .ran .ensures ∙ ap (λ (x : Core). ran x R1) (c .before .opening .ensures)))
+    (λ c. c .ran .ensures ∙ ap (λ (x : Core). ran x (c .before .before .args .response)) (c .before .opening .ensures)))

@@ -12,6 +12,8 @@ play-spec =
     (λ c. sym (no-room _ _ _ (c .if1 .taken)))
     (λ c κs. search needs)
     (λ c. search needs)
+    (λ c. search needs)
+    (λ c κs. search needs)
     (λ c κs. search needs)
     (λ c. search needs)
     (λ c. search needs)
@@ -25,8 +27,8 @@ play-spec =
     (λ c. search needs)
     (λ c. search needs)
     (λ c.
-    let read = c .before .before .before .before .before .before .before .before .before .before .read in
-    by-word _ _ _ (read .result) (c .before .before .before .before .before .before .before .before .before .before .before .if1 .left) (read .ensures) _ _ (cmd-line _ (read .result) (c .before .before .before .before .before .before .before .enum-told .given .1)) (c .before .before .before .before .command .ensures))
+    let read = c .before .before .before .before .before .before .before .before .before .before .before .before .read in
+    by-word _ _ _ (read .result) (c .before .before .before .before .before .before .before .before .before .before .before .before .before .if1 .left) (read .ensures) _ _ (cmd-line _ (read .result) _ (c .before .before .before .before .before .before .before .before .before .enum-told .given .1) (c .before .before .before .before .before .before .front .ensures)) (c .before .before .before .before .command .ensures))
     (λ c. search needs)
     (λ c. search needs)
     (λ c.

@@ -1,7 +1,6 @@
 -- By the answer, and its length.
-use native.Mathlib.Omega.{arith}
 use borrow.Author.Needs.{needs}
-use borrow.Author.Tests.{ne-eqb}
+use borrow.Author.Tests.{le-leb, lt-leb}
 use Rattle.speed_card.proofs.right.Statement.{statement}
 use Rattle.speed_card.proofs.right.Tie as tie
 
@@ -11,13 +10,13 @@ right-spec =
     (tie.spec
     (λ c. search needs)
     (λ c. search needs)
+    (λ c. search (le-leb, lt-leb, c .before .before .a .given .1, c .if1 .taken, needs))
     (λ c. search needs)
     (λ c. search needs)
     (λ c. search needs)
     (λ c. search needs)
     (λ c. search needs)
-    (λ c. search needs)
-    (λ c. (simp (c .before .before .a .given .1, ne-eqb _ _ (c .if1 .left)), omega arith))
+    (λ c. search (le-leb, lt-leb, c .before .before .a .given .1, c .if1 .left, needs))
     (λ c. search needs)
     (λ c. search needs)
     (λ c. search needs)

@@ -14,7 +14,7 @@ use Rattle.card_receive.proofs.judge.judge.Tie as tie
 
 -- both tests of the command that was found
 allowed : (l : tie.After-legal) → let found = l .before .before in let c = found .before .before .args .c in let k = found .command-of .result in
-    (l .before .accepts .result && l .legal .result) ≡ (accepts k (c .locked) && legal k (c .bus .state))
+    (l .before .accepts .result && l .legal .result) ≡ (accepts k (c .locked) && legal k (c .bus))
 allowed l = ap₂ _&&_ (l .before .accepts .ensures) (l .legal .ensures)
 
 pub judge-spec : {M : Type 1} → statement M

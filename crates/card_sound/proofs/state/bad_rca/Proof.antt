@@ -1,4 +1,4 @@
--- By the number of the state.
+-- By the mode, and the number of the state.
 use borrow.Author.Tests.{eq-eqb, ne-eqb, le-leb, lt-leb}
 use borrow.Author.Needs.{needs}
 use Rattle.card.specs.State.{ina}
@@ -11,6 +11,7 @@ unfolding badRca
 bad-rca-spec =
     tie.close
     (tie.spec
-    (λ c. rw (eq-eqb (c .before .args .state) ina (c .if1 .taken)))
-    (λ c. simp (ne-eqb _ _ (c .before .if1 .left), le-leb _ _ (c .if2 .taken)))
-    (λ c. simp (ne-eqb _ _ (c .before .if1 .left), lt-leb _ _ (c .if2 .left))))
+    (λ c. rw (c .if1 .taken))
+    (λ c. simp (c .before .if1 .left, eq-eqb (c .before .before .args .state) ina (c .if2 .taken)))
+    (λ c. simp (c .before .before .if1 .left, ne-eqb _ _ (c .before .if2 .left), le-leb _ _ (c .if3 .taken)))
+    (λ c. simp (c .before .before .if1 .left, ne-eqb _ _ (c .before .if2 .left), lt-leb _ _ (c .if3 .left))))

@@ -10,8 +10,9 @@ use lib.ListN.{length, take, drop}
 use Rattle.card.specs.declared.answer.Answer.the-variants.{Silence}
 use Rattle.card.specs.Settings.{BLOCK}
 use Rattle.card.specs.Checks.{outside, crossing}
-use Rattle.card.specs.Record.{withState}
+use Rattle.card.specs.Frame.{Turn}
 use Rattle.card.specs.Data.{takeSource, holdRead, readBlock}
+use Rattle.card.specs.Step.{ledMessage, led}
 use Rattle.card_call.specs.Seen.{turned}
 use Rattle.card_call.proofs.Turns.{after, silent}
 use Rattle.card_take.proofs.Sending.{block-sent}
@@ -20,7 +21,7 @@ use Rattle.card_take.proofs.turn.take_blocks.Statement.{statement}
 use Rattle.card_take.proofs.turn.take_blocks.Tie as tie
 
 quietly : tie.Need-returns
-unfolding takeSource
+unfolding takeSource ledMessage
 quietly c =
     let card = c .before .before .before .args .card in
     rw (c .if1 .taken) (silent (after card (card .core) Silence) card (card .core) (card .core) refl refl _ _ refl)
@@ -39,14 +40,14 @@ bit : (c : tie.After-hold-bit) → c .hold-bit .result ≡ bitOf (past c) (acros
 bit c = c .hold-bit .ensures ∙ ap (λ (top : ℕ). bitOf (outside top (start c .args .address)) (across c)) (c .before .capacity .ensures)
 
 held : tie.Need-returns-2
-unfolding takeSource
+unfolding takeSource ledMessage
 held c =
     let b = c .before .before in
     let args = start b .args in
     let core = args .card .core in
     rw (b .before .before .if1 .left)
     (c .hold .ensures (args .memory .now) (args .out .now)
-    ∙ ap (turned (args .card) (args .memory .now) (args .out .now))
+    ∙ ap (λ (t : Turn). turned (args .card) (args .memory .now) (args .out .now) (led (core .bus .mode) t))
     (holds (past b) (across b) (b .hold-bit .result) (holdRead core (args .multiple) (args .address)) (readBlock core (args .memory .now) (args .multiple) (args .address)) (bit b) (c .before .if2 .taken)))
 
 low : (c : tie.Else2) → past (c .before) ≡ false
@@ -76,8 +77,8 @@ sent c =
     let l : length (take n (drop a s)) ≡ n =
     ap (λ (j : ℕ). length (take j (drop a s))) (sym k) ∙ mid-len a (a + n) s (omega (arith, within test, s0 .pre .size .whole)) ∙ k in
     rw (test .before .before .before .if1 .left, low test, whole test)
-    (block-sent (send .result) (args .card) _ s _ _ refl (s0 .pre .room) (take n (drop a s)) (omega (arith, l, s0 .pre .low)) (omega (arith, l, s0 .pre .high)) _ _
-    (ap (withState (args .card .core)) (behind .behind .ensures))
+    (block-sent (send .result) (args .card) _ s _ _ (s0 .pre .room) (take n (drop a s)) (omega (arith, l, s0 .pre .low)) (omega (arith, l, s0 .pre .high)) _ _
+    (behind .behind .ensures)
     (ap (λ (j : ℕ). take j (drop a s)) k)
     (send .ensures s))
 

@@ -4,9 +4,13 @@ use borrow.Author.Needs.{needs}
 use lib.Dec.{lit≤}
 use lib.ListN.{replicate}
 use Rattle.crc.specs.Bits.{bits}
-use Rattle.card.specs.Settings.{scrBytes}
+use Rattle.codec.proofs.RoundTrip.{length-image}
+use Rattle.reg_cid.specs.Cid.{cid}
+use Rattle.reg_csd.specs.Csd.{csd}
+use Rattle.card.specs.declared.State.the-variants.{Tran}
+use Rattle.card.specs.Settings.{cidBytes, csdBytes, scrBytes}
 use Rattle.card.specs.Data.{takeSource}
-use Rattle.card_take.proofs.Sending.{block-sent, word-sent}
+use Rattle.card_take.proofs.Sending.{block-sent, word-sent, register-sent}
 use Rattle.card_take.proofs.turn.take_source.Statement.{statement}
 use Rattle.card_take.proofs.turn.take_source.Tie as tie
 
@@ -20,7 +24,7 @@ marks c =
     let start = told .before .before .before .before in
     let send = c .before .before .send-marks in
     rw (told .source2 .given .1)
-    (word-sent (send .result) (start .args .card) _ (start .args .memory .now) _ _ refl (start .pre .room) _ (send .ensures (start .args .memory .now)))
+    (word-sent (send .result) (start .args .card) Tran (start .args .memory .now) _ _ (start .pre .room) _ (send .ensures (start .args .memory .now)))
 
 sd-status : tie.Need-returns-3
 unfolding takeSource
@@ -29,7 +33,7 @@ sd-status c =
     let start = told .before .before .before .before in
     let send = c .before .before .send-status in
     rw (told .enum-told .given .1)
-    (block-sent (send .result) (start .args .card) _ (start .args .memory .now) _ _ refl (start .pre .room) (replicate 64 0) (lit≤ tt) (lit≤ tt) _ _ refl refl
+    (block-sent (send .result) (start .args .card) Tran (start .args .memory .now) _ _ (start .pre .room) (replicate 64 0) (lit≤ tt) (lit≤ tt) _ _ refl refl
     (send .ensures (start .args .memory .now)))
 
 written : tie.Need-returns-4
@@ -39,7 +43,7 @@ written c =
     let start = told .before .before .before .before in
     let send = c .before .before .send-word in
     rw (told .enum-told2 .given .1)
-    (word-sent (send .result) (start .args .card) _ (start .args .memory .now) _ _ refl (start .pre .room) (bits 32 (start .args .card .core .written))
+    (word-sent (send .result) (start .args .card) Tran (start .args .memory .now) _ _ (start .pre .room) (bits 32 (start .args .card .core .written))
     (send .ensures (start .args .memory .now)))
 
 scr : tie.Need-returns-5
@@ -49,13 +53,35 @@ scr c =
     let start = told .before .before .before .before in
     let send = c .before .before .send-scr in
     rw (told .enum-told3 .given .1)
-    (block-sent (send .result) (start .args .card) _ (start .args .memory .now) _ _ refl (start .pre .room) scrBytes (lit≤ tt) (lit≤ tt) _ _ refl refl
+    (block-sent (send .result) (start .args .card) Tran (start .args .memory .now) _ _ (start .pre .room) scrBytes (lit≤ tt) (lit≤ tt) _ _ refl refl
     (send .ensures (start .args .memory .now)))
+
+csd-register : tie.Need-returns-6
+unfolding takeSource
+csd-register c =
+    let told = c .before .before .before .before in
+    let start = told .before .before .before .before in
+    let send = c .before .before .send-csd in
+    rw (told .enum-told4 .given .1)
+    (register-sent (send .result) (start .args .card) Tran (start .args .memory .now) _ _ (start .pre .room) (csdBytes (start .args .card .core .csd)) (length-image csd _) (send .ensures (start .args .memory .now)))
+
+cid-register : tie.Need-returns-7
+unfolding takeSource
+cid-register c =
+    let told = c .before .before .before .before in
+    let start = told .before .before .before .before in
+    let send = c .before .before .send-cid in
+    rw (told .enum-told5 .given .1)
+    (register-sent (send .result) (start .args .card) Tran (start .args .memory .now) _ _ (start .pre .room) (cidBytes (start .args .card .core .settings)) (length-image cid _) (send .ensures (start .args .memory .now)))
 
 pub take-source-spec : {M : Type 1} → statement M
 take-source-spec =
     tie.close
     (tie.spec
+    (λ c. search needs)
+    (λ c κs. search needs)
+    (λ c. search needs)
+    (λ c κs. search needs)
     (λ c. search needs)
     (λ c κs. search needs)
     (λ c. search needs)
@@ -75,4 +101,8 @@ take-source-spec =
     (λ c. search needs)
     written
     (λ c. search needs)
-    scr)
+    scr
+    (λ c. search needs)
+    csd-register
+    (λ c. search needs)
+    cid-register)

@@ -1,0 +1,2 @@
+-- What the first byte and the length of a block tell.
+pub mod Tokens

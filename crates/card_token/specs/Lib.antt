@@ -1,0 +1,2 @@
+-- What the tokens of a block tell.
+pub mod Tokens

@@ -1,0 +1,2 @@
+-- What the console writes of a data answer.
+pub mod Response
