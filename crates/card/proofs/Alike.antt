@@ -9,11 +9,13 @@ use Rattle.codec.specs.Answer.{done}
 use Rattle.card.specs.declared.Password.{Password}
 use Rattle.card.specs.declared.Line.{Line}
 use Rattle.card.specs.declared.done.Flag.{Flag}
-use Rattle.card.specs.declared.done.Flag.the-variants.{Clear}
+use Rattle.card.specs.declared.done.Flag.the-variants.{Keep, Clear}
+use Rattle.card.specs.declared.command.Command.the-variants.{StopTransmission}
 use Rattle.card.specs.State.{inSpi}
-use Rattle.card.specs.Frame.{Turn}
+use Rattle.card.specs.Frame.{Turn, quiet}
 use Rattle.card.specs.Receive.{receive}
-use Rattle.card.specs.Data.{takeFrom, overFrom}
+use Rattle.card.specs.Execute.{moved}
+use Rattle.card.specs.Data.{takeFrom, blockInto, passwordInto, overFrom}
 use Rattle.card.specs.Step.{Call, powerUp, commandFrame, blockIn, takeBlock, busyOver, World, world, Result, refuse, over, flagged, show, fresh, start, opened, Incoming, payload, stop, ignored, entered, arrived, handed, powerRefusal, frameRefusal, blockRefusal, success, takeRefusal, overRefusal, poweredUp, framed, given, taken, overed, step}
 use Rattle.card.specs.History.{spiOf, SameWorld, hidden}
 use Rattle.card.proofs.Choices.{unless-either}
@@ -77,9 +79,12 @@ module _ (w : World) (l : Line) (sd : spiOf w ≡ false) where
   entered-alike : (block : List ℕ) (i : Incoming) → Matched false (blockIn block) (entered w i) (entered (relined w l) i)
   unfolding entered
   entered-alike block (payload right s) =
-      data-alike (blockIn block) _ [] _ (block-bare (opened w) right (success w s) (w .card .core) s) (block-mode (w .card .core) (opened w) right (success w s) s)
-  entered-alike block stop = data-alike (blockIn block) _ [] _ tt refl
-  entered-alike block ignored = data-alike (blockIn block) _ [] _ tt refl
+      let c = w .card .core in
+      let o = opened w in
+      data-alike (blockIn block) (passwordInto o right (success w s) (w .card .password) s) [] (blockInto o right (success w s) c s)
+      (block-bare o right (success w s) c s) (block-mode c o right (success w s) s)
+  entered-alike block stop = data-alike (blockIn block) (w .card .password) [] (quiet (moved StopTransmission (w .card .core)) Keep) tt refl
+  entered-alike block ignored = data-alike (blockIn block) (w .card .password) [] (quiet (w .card .core) Keep) tt refl
 
   relined-alike : (c : Call) → Matched false c (step w c) (step (relined w l) c)
   unfolding step poweredUp framed given taken overed start fresh

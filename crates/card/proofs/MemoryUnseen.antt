@@ -36,7 +36,7 @@ use Rattle.card.specs.Effects.{Stored, stored, affected}
 use Rattle.card.specs.Frame.{Turn, token, quiet, said}
 use Rattle.card.specs.Receive.{receive}
 use Rattle.card.specs.Lock.{operation}
-use Rattle.card.specs.Data.{word32, markBytes, single, operate, lockInto, writeInto, takeSource, takeFrom, blockInto, overFrom, ACCEPTED, REJECTED}
+use Rattle.card.specs.Data.{word32, markBytes, single, operate, lockInto, writeInto, takeSource, takeFrom, blockInto, passwordInto, overFrom, ACCEPTED, REJECTED}
 use Rattle.card.specs.Step.{Call, powerUp, commandFrame, blockIn, takeBlock, busyOver, World, world, Result, over, refuse, refusal, POWER-ROWS, FRAME-ROWS, BLOCK-ROWS, TAKE-ROWS, OVER-ROWS, unless, otherSize, FRAME, ROOM, otherBlock, blockRoom, flagged, show, fresh, start, permitted, opened, Incoming, payload, stop, ignored, success, entered, arrived, led, handed, powerRefusal, frameRefusal, blockRefusal, takeRefusal, overRefusal, poweredUp, framed, given, taken, overed, step, next}
 use Rattle.card.specs.History.{Sound, Start}
 use Rattle.card.specs.Locked.{erasesBy, sourceShut, shut, Shut, StartsShut, KeepsShut, isForceErase, passes, forceErases, AlikeButMemory, AgreeButMemory, MemoryUnseen}
@@ -123,9 +123,12 @@ show-shut w p out t h = h
 
 entered-shut : (w : World) → Shut w → (i : Incoming) → Good (entered w i)
 unfolding entered
-entered-shut w h (payload right s) = show-shut w _ [] _ (block-shut (w .card .core) h (opened w) h right (success w s) s)
-entered-shut w h stop = show-shut w _ [] _ (stop-shut (w .card .core) h)
-entered-shut w h ignored = show-shut w _ [] _ h
+entered-shut w h (payload right s) =
+    let c = w .card .core in
+    let o = opened w in
+    show-shut w (passwordInto o right (success w s) (w .card .password) s) [] (blockInto o right (success w s) c s) (block-shut c h o h right (success w s) s)
+entered-shut w h stop = show-shut w (w .card .password) [] (quiet (moved StopTransmission (w .card .core)) Keep) (stop-shut (w .card .core) h)
+entered-shut w h ignored = show-shut w (w .card .password) [] (quiet (w .card .core) Keep) h
 
 pub keeps-shut : KeepsShut
 unfolding step poweredUp framed given taken overed
@@ -219,7 +222,7 @@ module _ (w : World) (m : List ℕ) (long : length (w .memory) ≡ length m) whe
 
   entered-alike : shut (opened w) ≡ true → (i : Incoming) → Matched w (locking (opened w) && erasesBy w i) (entered w i) (entered other i)
   unfolding entered
-  entered-alike h (payload right s) = block-alike s right (success w s) _ (opened w) h
+  entered-alike h (payload right s) = block-alike s right (success w s) (passwordInto (opened w) right (success w s) (w .card .password) s) (opened w) h
   entered-alike h stop = nothing-erased (locking (opened w)) (show-alike (w .card .password) [] (quiet (moved StopTransmission core) Keep) refl)
   entered-alike h ignored = nothing-erased (locking (opened w)) (show-alike (w .card .password) [] (quiet core Keep) refl)
 

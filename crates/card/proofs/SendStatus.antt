@@ -15,7 +15,8 @@ use Rattle.card.specs.declared.Kept.{Kept}
 use Rattle.card.specs.declared.Core.{Core}
 use Rattle.card.specs.declared.Password.{Password}
 use Rattle.card.specs.declared.Line.{Line}
-use Rattle.card.specs.declared.command.Command.the-variants.{SendStatus}
+use Rattle.card.specs.declared.command.Command.the-variants.{StopTransmission, SendStatus}
+use Rattle.card.specs.declared.done.Flag.the-variants.{Keep}
 use Rattle.card.specs.declared.done.Response.the-variants.{R1}
 use Rattle.card.specs.declared.done.Verdict.the-variants.{Ran}
 use Rattle.card.specs.Record.{withKept, withApp, withMarks}
@@ -23,12 +24,12 @@ use Rattle.card.specs.Protect.{whole}
 use Rattle.card.specs.State.{number, ina, inSpi, checking, numberIn}
 use Rattle.card.specs.Status.{noBits, join, at}
 use Rattle.card.specs.Table.{row, moves, fits, find, commandOf, own, has, legal, accepts}
-use Rattle.card.specs.Execute.{ran, settled, runAt}
+use Rattle.card.specs.Execute.{ran, moved, settled, runAt}
 use Rattle.card.specs.Effects.{stored, affected}
-use Rattle.card.specs.Frame.{Message, silence, r1, r6, spiR1, plain, block, token, finished, Turn, judged, judge, messageOf, cleared, finish}
+use Rattle.card.specs.Frame.{Message, silence, r1, r6, spiR1, plain, block, token, finished, Turn, quiet, judged, judge, messageOf, cleared, finish}
 use Rattle.card.specs.Spi.{COM-CRC-ERROR, r1Byte, r2Byte, inIdle, behindR1, unread, finishSpi}
 use Rattle.card.specs.Receive.{shownSd, showSd, byCheck, receiveSd, showSpi, byCheckSpi, receive}
-use Rattle.card.specs.Data.{takeFrom, overFrom}
+use Rattle.card.specs.Data.{takeFrom, blockInto, passwordInto, overFrom}
 use Rattle.card.specs.Soundness.{unsoundTests, unsound}
 use Rattle.card.specs.Step.{Call, powerUp, commandFrame, blockIn, takeBlock, busyOver, World, world, Result, over, sent, line, wire, replyOf, after, flagged, show, start, opened, Incoming, payload, stop, ignored, entered, arrived, ledMessage, handed, refuse, packetSize, loneByte, powerRefusal, frameRefusal, blockRefusal, success, takeRefusal, overRefusal, poweredUp, framed, given, taken, overed, step, next}
 use Rattle.card.specs.SendStatus.{SendsStatus, statusBytes, StatusSent, SendStatusShows, Entry, call, sendStatus, SameButStatus, blockOf, AlikeButStatus, AgreeButStatus, SendStatusInserted}
@@ -197,10 +198,16 @@ module _ (w : World) (b : Kept) (l : Line) where
   entered-same : (arriving : List ℕ) (i : Incoming) → Matched (blockIn arriving) (entered w i) (entered other i)
   unfolding entered
   entered-same arriving (payload right s) =
-      show-same (blockIn arriving) _ [] _ _ (block-same (w .card .core) b (opened w) right (success w s) s) refl
-  entered-same arriving stop = show-same (blockIn arriving) _ [] _ _ (stop-same (w .card .core) b) refl
+      let c = w .card .core in
+      let o = opened w in
+      show-same (blockIn arriving) (passwordInto o right (success w s) (w .card .password) s) [] (blockInto o right (success w s) c s)
+      (blockInto o right (success w s) (other .card .core) s) (block-same c b o right (success w s) s) refl
+  entered-same arriving stop =
+      show-same (blockIn arriving) (w .card .password) [] (quiet (moved StopTransmission (w .card .core)) Keep)
+      (quiet (moved StopTransmission (other .card .core)) Keep) (stop-same (w .card .core) b) refl
   entered-same arriving ignored =
-      show-same (blockIn arriving) _ [] _ _ (record { core = refl; flag = refl; message = refl; effect = refl; payload = refl }) refl
+      show-same (blockIn arriving) (w .card .password) [] (quiet (w .card .core) Keep) (quiet (other .card .core) Keep)
+      (record { core = refl; flag = refl; message = refl; effect = refl; payload = refl }) refl
 
   step-same : (c : Call) → Matched c (step w c) (step other c)
   unfolding step poweredUp framed given taken overed unsound unsoundTests packetSize loneByte

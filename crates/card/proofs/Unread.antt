@@ -106,8 +106,25 @@ write-same c b k multiple a = checked-same c b _ (same refl)
 mark-same : (c : Core) (b : Kept) (k : Command) (value : Bool) (a : ℕ) → SameDone (setMark k c value a) (setMark k (withKept c b) value a)
 mark-same c b k value a = checked-same c b _ (same refl)
 
+start-same : (c : Core) (b : Kept) (a : ℕ) → SameDone (eraseStart c a) (eraseStart (withKept c b) a)
+unfolding eraseStart
+start-same c b a = checked-same c b _ (same refl)
+
+end-same : (c : Core) (b : Kept) (a : ℕ) → SameDone (eraseEnd c a) (eraseEnd (withKept c b) a)
+unfolding eraseEnd
+end-same c b a = cond-both SameDone (isSet (c .erase .first)) (checked-same c b _ (same refl)) (same refl)
+
+poll-same : (c : Core) (b : Kept) (x : ℕ) → SameDone (sdSendOpCond c x) (sdSendOpCond (withKept c b) x)
+unfolding sdSendOpCond sendOpCondSpi sendOpCond
+poll-same c b x =
+    cond-both SameDone (inSpi (c .bus .mode))
+    (same (cond-both Same (eqb (number (c .bus .state)) idle) (cond-both Same (eqb (c .bus .polls) 0) refl refl) refl))
+    (cond-both SameDone (eqb (window x) 0) (same refl)
+    (cond-both SameDone (eqb (fitting x) 0) (same refl)
+    (cond-both SameDone (eqb (c .bus .polls) 0) (same refl) (same refl))))
+
 runAt-same : (k : Command) (c : Core) (b : Kept) (x a : ℕ) → SameDone (runAt k c x a) (runAt k (withKept c b) x a)
-unfolding runAt sdSendOpCond sendOpCondSpi sendOpCond eraseStart eraseEnd
+unfolding runAt
 runAt-same GoIdleState c b x a = same refl
 runAt-same AllSendCid c b x a = same refl
 runAt-same SendRelativeAddr c b x a = same refl
@@ -130,19 +147,14 @@ runAt-same LockUnlock c b x a = same refl
 runAt-same SetWriteProt c b x a = mark-same c b SetWriteProt true a
 runAt-same ClrWriteProt c b x a = mark-same c b ClrWriteProt false a
 runAt-same Erase c b x a = erase-same c b
-runAt-same EraseWrBlkStart c b x a = checked-same c b _ (same refl)
-runAt-same EraseWrBlkEnd c b x a = cond-both SameDone (isSet (c .erase .first)) (checked-same c b _ (same refl)) (same refl)
+runAt-same EraseWrBlkStart c b x a = start-same c b a
+runAt-same EraseWrBlkEnd c b x a = end-same c b a
 runAt-same Command.SdStatus c b x a = same refl
 runAt-same SendNumWrBlocks c b x a = same refl
 runAt-same SendScr c b x a = same refl
 runAt-same SetWrBlkEraseCount c b x a = same refl
 runAt-same SetClrCardDetect c b x a = same refl
-runAt-same SdSendOpCond c b x a =
-    cond-both SameDone (inSpi (c .bus .mode))
-    (same (cond-both Same (eqb (number (c .bus .state)) idle) (cond-both Same (eqb (c .bus .polls) 0) refl refl) refl))
-    (cond-both SameDone (eqb (window x) 0) (same refl)
-    (cond-both SameDone (eqb (fitting x) 0) (same refl)
-    (cond-both SameDone (eqb (c .bus .polls) 0) (same refl) (same refl))))
+runAt-same SdSendOpCond c b x a = poll-same c b x
 runAt-same ReadOcr c b x a = same refl
 runAt-same CrcOnOff c b x a = same refl
 runAt-same Unknown c b x a = same refl
@@ -239,24 +251,33 @@ module _ (c : Core) (b : Kept) where
   doing-same : (k : Command) (x : ℕ) → SameDone (doing c k x) (doing (withKept c b) k x)
   doing-same k x = run-same k (settled k c) (settled k (withKept c b)) (settled-same k c b) x
 
-  judge-same : (low : Bool) (index argument : ℕ) → SameTurn (showSd c low (judge c index argument)) (showSd (withKept c b) low (judge (withKept c b) index argument))
-  unfolding judge showSd shownSd
-  judge-same low index argument =
-      let k = commandOf (c .bus) index argument in
+  shown-same : (low : Bool) (k : Command) (x : ℕ) → SameTurn (shownSd c low k (doing c k x)) (shownSd (withKept c b) low k (doing (withKept c b) k x))
+  unfolding shownSd
+  shown-same low k x =
+      let d = doing c k x in
+      let e = doing (withKept c b) k x in
+      let s : SameDone d e = doing-same k x in
+      cond-both SameTurn (chooses low k) (finishSpi-same k (c .kept) b (chosen d) (chosen e) (chosen-same s)) (finish-same k (number (c .bus .state)) d e s)
+
+  shown-same-spi : (k : Command) (x : ℕ) → SameTurn (finishSpi (c .kept) k (doing c k x)) (finishSpi b k (doing (withKept c b) k x))
+  shown-same-spi k x = finishSpi-same k (c .kept) b (doing c k x) (doing (withKept c b) k x) (doing-same k x)
+
+  judge-same : (low : Bool) (index x : ℕ) → SameTurn (showSd c low (judge c index x)) (showSd (withKept c b) low (judge (withKept c b) index x))
+  unfolding judge showSd
+  judge-same low index x =
+      let k = commandOf (c .bus) index x in
       let R : Judged → Judged → Type 0 = λ i j. SameTurn (showSd c low i) (showSd (withKept c b) low j) in
-      let s : SameDone (doing c k argument) (doing (withKept c b) k argument) = doing-same k argument in
       cond-both R (accepts k (c .locked) && legal k (c .bus))
-      (cond-both R (misses (row k .rca) (own (c .bus) argument)) (turned refl)
-      (cond-both SameTurn (chooses low k) (finishSpi-same k (c .kept) b _ _ (chosen-same s)) (finish-same k (number (c .bus .state)) _ _ s)))
+      (cond-both R (misses (row k .rca) (own (c .bus) x)) (turned refl) (shown-same low k x))
       (turned refl)
 
-  judge-same-spi : (index argument : ℕ) → SameTurn (showSpi c (judge c index argument)) (showSpi (withKept c b) (judge (withKept c b) index argument))
+  judge-same-spi : (index x : ℕ) → SameTurn (showSpi c (judge c index x)) (showSpi (withKept c b) (judge (withKept c b) index x))
   unfolding judge showSpi
-  judge-same-spi index argument =
-      let k = commandOf (c .bus) index argument in
+  judge-same-spi index x =
+      let k = commandOf (c .bus) index x in
       let R : Judged → Judged → Type 0 = λ i j. SameTurn (showSpi c i) (showSpi (withKept c b) j) in
       cond-both R (accepts k (c .locked) && legal k (c .bus))
-      (cond-both R (misses (row k .rca) (own (c .bus) argument)) (turned refl) (finishSpi-same k (c .kept) b _ _ (doing-same k argument)))
+      (cond-both R (misses (row k .rca) (own (c .bus) x)) (turned refl) (shown-same-spi k x))
       (turned refl)
 
   byCheck-same : (low : Bool) (f : FrameCheck) → SameTurn (byCheck f c low) (byCheck f (withKept c b) low)

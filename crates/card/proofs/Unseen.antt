@@ -20,13 +20,15 @@ use Rattle.card.specs.Record.{withKept, withLocked, withState}
 use Rattle.card.specs.State.{locking, reading, writing, busy}
 use Rattle.card.specs.Status.{only, join, LOCK-UNLOCK-FAILED}
 use Rattle.card.specs.Soundness.{unsound, badPassword}
-use Rattle.card.specs.Execute.{raise}
+use Rattle.card.specs.Execute.{raise, moved}
 use Rattle.card.specs.Effects.{affected}
-use Rattle.card.specs.Frame.{Turn, token, said}
+use Rattle.card.specs.Frame.{Turn, token, quiet, said}
 use Rattle.card.specs.Receive.{receive}
 use Rattle.card.specs.Lock.{operation, succeeds}
-use Rattle.card.specs.Data.{operate, lockInto, blockInto, overFrom, ACCEPTED, REJECTED}
+use Rattle.card.specs.Data.{operate, lockInto, blockInto, passwordInto, overFrom, ACCEPTED, REJECTED}
 use Rattle.card.specs.Step.{Call, powerUp, commandFrame, blockIn, takeBlock, busyOver, World, world, Result, over, refuse, refusal, FRAME-ROWS, BLOCK-ROWS, TAKE-ROWS, OVER-ROWS, unless, otherSize, rows, FRAME, ROOM, otherBlock, blockRoom, show, start, opened, Incoming, payload, stop, ignored, success, entered, arrived, handed, powerRefusal, frameRefusal, blockRefusal, takeRefusal, overRefusal, poweredUp, framed, given, taken, overed, step, next}
+use Rattle.card.specs.declared.command.Command.the-variants.{StopTransmission}
+use Rattle.card.specs.declared.done.Flag.the-variants.{Keep}
 use Rattle.card.specs.History.{Sound}
 use Rattle.card.specs.Locked.{SameButPassword, locks, SameBits, AlikeButPassword, AgreeButPassword, PasswordUnseen}
 use Rattle.card.proofs.Sound.{keeps-sound}
@@ -157,9 +159,10 @@ module _ (w : World) (p : Password) where
 
   entered-alike : (i : Incoming) → Matched (locking (opened w)) (entered w i) (entered other i)
   unfolding entered
-  entered-alike (payload right s) = block-alike right s (opened w) _ _
-  entered-alike stop = show-alike (locking (opened w)) _ _ [] _
-  entered-alike ignored = show-alike (locking (opened w)) _ _ [] _
+  entered-alike (payload right s) =
+      block-alike right s (opened w) (passwordInto (opened w) right (success w s) (w .card .password) s) (passwordInto (opened w) right (success other s) p s)
+  entered-alike stop = show-alike (locking (opened w)) (w .card .password) p [] (quiet (moved StopTransmission core) Keep)
+  entered-alike ignored = show-alike (locking (opened w)) (w .card .password) p [] (quiet core Keep)
 
   -- ---- the five calls
 

@@ -1,8 +1,8 @@
 -- The readings of SPI mode (02, order 5): responses as bytes, tokens, checks on and off, what is allowed where.
 use mathlib.Core.Bool.{Bool, true, false}
 use mathlib.Core.List.{List, [], _∷_, _++_}
-use Prim.Native.Nat.{ℕ, _+_}
-use lib.ListN.{getD, set, replicate}
+use Prim.Native.Nat.{ℕ}
+use lib.ListN.{replicate}
 use Rattle.wire_packet.specs.Packet.{packet}
 use Rattle.card.specs.Settings.{cidBytes, csdBytes, csdOf}
 use Rattle.card.specs.Step.{Call, powerUp, commandFrame, blockIn, takeBlock, busyOver}
@@ -30,15 +30,12 @@ silently c = record { call = c; prints = none }
 abbrev pub taking : List ℕ → Reading
 taking s = record { call = takeBlock (replicate 515 0); prints = blk (0xFE ∷ s) }
 
--- a block of 24, of 25, and its first bit altered
-abbrev pub start-block : List ℕ
-start-block = 0xFE ∷ block
+-- a block of zeros, whose check is zero, behind a token; and its first bit altered
+abbrev pub behind : ℕ → List ℕ
+behind token = token ∷ replicate 514 0
 
-abbrev pub start-multiple : List ℕ
-start-multiple = 0xFC ∷ block
-
-abbrev pub damaged : List ℕ → List ℕ
-damaged s = set s 1 (getD s 1 0 + 128)
+abbrev pub damaged : ℕ → List ℕ
+damaged token = token ∷ 128 ∷ replicate 513 0
 
 -- the stop token
 abbrev pub stop-tran : Call
@@ -90,10 +87,10 @@ spiExamples =
     -- a write and a read with tokens; a block behind a wrong token, and blocks of other sizes
     ∷ on small (spi-ready
     (0x580000020043 bytes 0
-    ∷ silently (blockIn start-multiple)
-    ∷ refusing (blockIn block) 1
+    ∷ silently (blockIn (behind 0xFC))
+    ∷ refusing (blockIn (replicate 514 0)) 1
     ∷ refusing stop-tran 1
-    ∷ blockIn start-block says (5 ∷ [])
+    ∷ blockIn (0xFE ∷ block) says (5 ∷ [])
     -- busy: 13 runs, 17 does not
     ∷ status 0 0
     ∷ 0x510000020079 bytes 4
@@ -112,26 +109,25 @@ spiExamples =
     ∷ silently (frame 0xD10000020079)
     ∷ 0x7B0000000091 bytes 0
     ∷ 0x510000020078 bytes 8
-    ∷ 0x51000002007B bytes 0
-    ∷ taking (zeros 512) ∷ []))
+    ∷ 0x51000002007B bytes 0 ∷ []))
     -- a stop token; and one that ends a held 25, whose damaged block was answered 101
     ∷ on small (spi-ready
     (checks-on
     ∷ 0x590000000003 bytes 0
-    ∷ blockIn start-multiple says (5 ∷ [])
+    ∷ blockIn (behind 0xFC) says (5 ∷ [])
     ∷ silently (blockIn (0xFB ∷ []))
     ∷ silently stop-tran
     ∷ overs
     ∷ 0x590000000003 bytes 0
-    ∷ blockIn (damaged start-multiple) says (0x0B ∷ [])
-    ∷ silently (blockIn start-multiple)
+    ∷ blockIn (damaged 0xFC) says (0x0B ∷ [])
+    ∷ silently (blockIn (behind 0xFC))
     ∷ silently stop-tran
     ∷ status 0 0
     ∷ overs
     -- with checks off it is stored
     ∷ 0x7B0000000091 bytes 0
     ∷ 0x58000000006F bytes 0
-    ∷ blockIn (damaged start-block) says (5 ∷ []) ∷ []))
+    ∷ blockIn (damaged 0xFE) says (5 ∷ []) ∷ []))
     -- CID, CSD and the SD status as blocks; the RCA is not compared; 7 and 15 are not there
     ∷ on small (spi-ready
     (0x4A000000001B bytes 0
@@ -148,7 +144,7 @@ spiExamples =
     (0x5C00000000CD bytes 0
     ∷ overs
     ∷ 0x58000000006F bytes 0
-    ∷ refusing (blockIn start-block) 5
+    ∷ refusing (blockIn (behind 0xFE)) 5
     ∷ 0x500000020015 bytes 0
     ∷ 0x6600000000A5 bytes 0x10
     ∷ status 0 0x20
