@@ -1,4 +1,6 @@
 // Brings a card up: commands on standard output, the card's answers on standard input. The argument is the limit of polls.
+#![tactic(auto)]
+
 fn main() {
     let mut text = io::buffer();
     match os::arg_count() {

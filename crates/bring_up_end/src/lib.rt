@@ -1,4 +1,6 @@
 // The last line of the host's program: how it ended.
+#![tactic(auto)]
+
 pub mod blocks;
 
 use blocks::blocks;

@@ -1,6 +1,6 @@
 -- The digits of an answer, and its line.
 use mathlib.Core.Path.{◌≡◌, refl, sym, ap, ◌∙◌}
-use mathlib.Core.Bool.{Bool, true, false, cond, ◌&&◌, and_false, false≢true}
+use mathlib.Core.Bool.{Bool, true, false, cond, ◌&&◌, and-false, false≢true}
 use mathlib.Core.List.{List, [], ◌++◌}
 use Prim.Native.Nat.{ℕ, ◌-◌, ◌*◌, ◌/◌, ◌%◌, ◌≤◌, ◌<◌}
 use native.Mathlib.Omega.{arith}
@@ -19,7 +19,7 @@ module _ (most : ℕ) (s : List ℕ) where
 
   pub field_off : 2 * most < length s → field most s ≡ other
   unfolding field
-  field_off h = rw (lt-leb (length s) (2 * most) h, and_false)
+  field_off h = rw (lt-leb (length s) (2 * most) h, and-false)
 
   pub too_many : most < length s / 2 → other ≡ field most s
   too_many h = sym (field_off (omega arith))
@@ -43,8 +43,8 @@ module _ (buffer s : List ℕ) (some : length s ≡ 0 → ⊥) (room : length s 
 
   odd : (length s % 2 ≡ 0 → ⊥) → fills s out ≡ is_field (length buffer) s
   odd n =
-      rw (ne_eqb (length s) (2 * length out) (λ e. n (omega arith)), ne_eqb (length s % 2) 0 n, and_false)
-      (sym (and_false (leb 1 (length s))))
+      rw (ne_eqb (length s) (2 * length out) (λ e. n (omega arith)), ne_eqb (length s % 2) 0 n, and-false)
+      (sym (and-false (leb 1 (length s))))
 
   same_test : fills s out ≡ is_field (length buffer) s
   same_test = by (eqb (length s % 2) 0) refl

@@ -1,6 +1,6 @@
 -- The digits of a limit, one at a time.
 use mathlib.Core.Path.{◌≡◌, refl, sym, ap, ◌∙◌}
-use mathlib.Core.Bool.{Bool, true, false, cond, ◌&&◌, and_false}
+use mathlib.Core.Bool.{Bool, true, false, cond, ◌&&◌, and-false}
 use mathlib.Core.List.{List, [], ◌∷◌}
 use Prim.Native.Nat.{ℕ, ◌+◌, ◌-◌, ◌*◌, ◌≤◌, ◌<◌}
 use native.Mathlib.Numerals.{add-one}
@@ -19,7 +19,7 @@ grows v (c ∷ s) = omega (arith, grows (v * 10 + (c - 48)) s)
 
 pub too_large : (v : ℕ) (s : List ℕ) → 1000 < v → limit_from v s ≡ 0
 unfolding limit_from
-too_large v s h = rw (lt-leb (number v s) 1000 (omega (arith, grows v s)), and_false)
+too_large v s h = rw (lt-leb (number v s) 1000 (omega (arith, grows v s)), and-false)
 
 module _ (text : List ℕ) (i v : ℕ) (h : i < length text) (inv : limit_from v (drop i text) ≡ read_limit text) where
   c : ℕ
@@ -38,7 +38,7 @@ module _ (text : List ℕ) (i v : ℕ) (h : i < length text) (inv : limit_from v
 
   pub above : 57 < get_or text i 0 → 0 ≡ read_limit text
   unfolding c limit_from all_digits
-  above w = sym (one ∙ rw (lt-leb c 57 w, and_false))
+  above w = sym (one ∙ rw (lt-leb c 57 w, and-false))
 
   pub more : 48 ≤ get_or text i 0 → get_or text i 0 ≤ 57 → limit_from (v * 10 + (get_or text i 0 - 48)) (drop (i + 1) text) ≡ read_limit text
   unfolding c rest limit_from all_digits number

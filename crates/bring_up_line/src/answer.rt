@@ -7,7 +7,7 @@ use replay_read::fields::{begins, equals};
 use replay_read::hex::unhex;
 
 // So many bytes, none of them where the card is silent; or the line is no answer to a command.
-#[derive(Drop)]
+#[derive(Clone, Copy)]
 pub enum AnswerRead {
     Bytes(usize),
     NoAnswer,

@@ -4,14 +4,14 @@ ghost use Rattle.std.specs.Prelude.{◌≤◌, length};
 use replay_read::{fill, keep};
 
 // What was read and not used yet: the bytes of a chunk from `at` to `end`.
-#[derive(Drop)]
+#[derive(Clone, Copy)]
 pub(crate) struct Unread {
     pub at: usize,
     pub end: usize,
 }
 
 // How many bytes of a line were kept, without its newline.
-#[derive(Drop)]
+#[derive(Clone, Copy)]
 pub(crate) struct Arrived {
     pub unread: Unread,
     pub count: usize,

@@ -1,4 +1,6 @@
 // The program of the host: a line for each command, the card's answer to it, and at last how it ended.
+#![tactic(auto)]
+
 ghost use Rattle.std.specs.Prelude.{◌≤◌, length};
 
 mod input;
@@ -17,7 +19,7 @@ fn send(out: &[u8], n: usize) {
 }
 
 // The card's answer to the frame, and what is left unread behind its line.
-#[derive(Drop)]
+#[derive(Clone, Copy)]
 struct Heard {
     answer: AnswerRead,
     unread: Unread,

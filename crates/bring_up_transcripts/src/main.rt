@@ -1,4 +1,6 @@
 // Feeds stored answers of a card to the host, one file after the other: a line of `list` has the limit and the file of each.
+#![tactic(auto)]
+
 ghost use Rattle.std.specs.Prelude.{◌≤◌, length};
 
 fn bring_up(name: &[u8], limit: &[u8]) {

@@ -91,11 +91,11 @@ module _ (w : World) (frame : List ℕ) (low : Bool) (out : List ℕ) (h : Sends
   unfolding receive receive_sd by_check show_sd shown_sd row legal moves number_in
   received-sd sd =
       let here : has (row SendStatus).sd (number c.bus.state) ≡ true = rw sd at h.permitted in
-      simp (sd, awake c.bus.state here, h.check, judges, and_false low)
+      simp (sd, awake c.bus.state here, h.check, judges, and-false low)
     where
-      and_false : (b : Bool) → (b && false) ≡ false
-      and_false true = refl
-      and_false false = refl
+      and-false : (b : Bool) → (b && false) ≡ false
+      and-false true = refl
+      and-false false = refl
 
   received-spi : in_spi c.bus.mode ≡ true → receive c low frame ≡ finish_spi c.kept SendStatus (ran c R1)
   unfolding receive by_check_spi show_spi

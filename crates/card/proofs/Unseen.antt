@@ -51,23 +51,23 @@ unless-both R o p e v w out x y f g = subst (λ (q : Option ℕ). R (unless o v 
 
 -- ---- the record after a block of 42 that succeeded on one card and failed on the other
 
-or_false : (b : Bool) → b ≡ (b || false)
-or_false true = refl
-or_false false = refl
+or-false : (b : Bool) → b ≡ (b || false)
+or-false true = refl
+or-false false = refl
 
 -- a bit that is there is raised in vain
 raised : (k : Kept) → k.lock_unlock_failed ≡ (k.lock_unlock_failed || true) → k ≡ join k (only LOCK_UNLOCK_FAILED)
 raised k e = λ i. record {
-  out_of_range = or_false k.out_of_range i;
-  address_error = or_false k.address_error i;
-  block_len_error = or_false k.block_len_error i;
-  erase_seq_error = or_false k.erase_seq_error i;
-  erase_param = or_false k.erase_param i;
-  wp_violation = or_false k.wp_violation i;
+  out_of_range = or-false k.out_of_range i;
+  address_error = or-false k.address_error i;
+  block_len_error = or-false k.block_len_error i;
+  erase_seq_error = or-false k.erase_seq_error i;
+  erase_param = or-false k.erase_param i;
+  wp_violation = or-false k.wp_violation i;
   lock_unlock_failed = e i;
-  illegal_command = or_false k.illegal_command i;
-  wp_erase_skip = or_false k.wp_erase_skip i;
-  erase_reset = or_false k.erase_reset i;
+  illegal_command = or-false k.illegal_command i;
+  wp_erase_skip = or-false k.wp_erase_skip i;
+  erase_reset = or-false k.erase_reset i;
 }
 
 module _ (w : World) (p : Password) where

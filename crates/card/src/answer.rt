@@ -1,5 +1,5 @@
 // The answer of a call.
-#[derive(Drop)]
+#[derive(Clone, Copy)]
 pub enum Answer {
     // nothing is sent
     Silence,
@@ -15,7 +15,7 @@ pub enum Answer {
 }
 
 // What was handed in, held against the rows of 01's table of refused calls: which of them apply.
-#[derive(Drop)]
+#[derive(Clone, Copy)]
 pub struct Rows {
     // 1: a size
     pub size: bool,

@@ -1,5 +1,5 @@
 // The commands of the card, by the standard's names, in the order of 01's table.
-#[derive(Drop)]
+#[derive(Clone, Copy)]
 pub enum Command {
     GoIdleState,
     AllSendCid,
@@ -41,7 +41,7 @@ pub enum Command {
 // Columns of the table.
 
 // A plain row; 55; a row that an index has after 55.
-#[derive(Drop)]
+#[derive(Clone, Copy)]
 pub enum Kind {
     Plain,
     AppCmd,
@@ -50,7 +50,7 @@ pub enum Kind {
 
 // What the upper half of the argument is: no RCA; the RCA of the card that is meant; for the two rows of 7 the card's own RCA,
 // and another.
-#[derive(Drop)]
+#[derive(Clone, Copy)]
 pub enum Rca {
     Unused,
     Addressed,

@@ -3,7 +3,7 @@ use crate::Core;
 use crate::command::Command;
 
 // The response of a command.
-#[derive(Drop)]
+#[derive(Clone, Copy)]
 pub enum Response {
     Nothing,
     // R1 and R6 show the status, which the layer of the bus mode adds
@@ -18,7 +18,7 @@ pub enum Response {
 }
 
 // What a call does to memory and protection marks; applied in one place.
-#[derive(Drop)]
+#[derive(Clone, Copy)]
 pub enum Effect {
     Nothing,
     // the payload of a block goes to an address
@@ -32,14 +32,14 @@ pub enum Effect {
 }
 
 // What a command that ran comes to. The kept bits of the record are those held before and the command's own.
-#[derive(Drop)]
+#[derive(Clone, Copy)]
 pub struct Done {
     pub core: Core,
     pub response: Response,
     pub effect: Effect,
 }
 
-#[derive(Drop)]
+#[derive(Clone, Copy)]
 pub enum Verdict {
     // not allowed in this state, or not in the table
     NotAllowed,
@@ -49,7 +49,7 @@ pub enum Verdict {
 }
 
 // The command that a frame asks for, whether it runs, and what it does then.
-#[derive(Drop)]
+#[derive(Clone, Copy)]
 pub struct Judged {
     pub verdict: Verdict,
     pub command: Command,
@@ -57,7 +57,7 @@ pub struct Judged {
 }
 
 // What becomes of COM_CRC_ERROR.
-#[derive(Drop)]
+#[derive(Clone, Copy)]
 pub enum Flag {
     Keep,
     Set,

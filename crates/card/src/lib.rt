@@ -1,5 +1,7 @@
 // The card's types: here the record, with the settings and the states that it holds. What the calls do with them is in specs/, and
 // no code is here. Every check above spells these names out many times over, so they stand in no module.
+#![tactic(auto)]
+
 pub mod answer;
 pub mod command;
 pub mod done;
@@ -10,7 +12,7 @@ use reg_cid::cid::Cid;
 use reg_csd::Csd;
 
 // The settings of a power-up.
-#[derive(Drop)]
+#[derive(Clone, Copy)]
 pub struct Settings {
     // block count
     pub blocks: u32,
@@ -23,7 +25,7 @@ pub struct Settings {
 }
 
 // What a read transfer hands out. A held one is silent until it is ended.
-#[derive(Drop)]
+#[derive(Clone, Copy)]
 pub enum Source {
     // commands 17 and 18, from memory
     Blocks {
@@ -45,7 +47,7 @@ pub enum Source {
 }
 
 // What a write transfer takes in: the block of 24, the blocks of 25, the block of 42. A held one is silent until it is ended.
-#[derive(Drop)]
+#[derive(Clone, Copy)]
 pub enum Sink {
     Single { address: u32, held: bool },
     Multiple { address: u32, held: bool },
@@ -53,7 +55,7 @@ pub enum Sink {
 }
 
 // The bus state, with the transfer that it stands for.
-#[derive(Drop)]
+#[derive(Clone, Copy)]
 pub enum State {
     Idle,
     Ready,
@@ -68,7 +70,7 @@ pub enum State {
 }
 
 // What a state has open. With its number, this answers every question that is asked of a state.
-#[derive(Drop)]
+#[derive(Clone, Copy)]
 pub enum Open {
     Nothing,
     Read(Source),
@@ -78,7 +80,7 @@ pub enum Open {
 }
 
 // The bus mode. In SPI mode the checks of frames and blocks are on or off.
-#[derive(Drop)]
+#[derive(Clone, Copy)]
 pub enum Mode {
     Sd,
     Spi { checks: bool },
@@ -86,7 +88,7 @@ pub enum Mode {
 
 // In SPI mode no bus state is observed. What counts of it there: idle; data and rcv, a transfer is open; prg and dis, busy; every
 // other state is none of these.
-#[derive(Drop)]
+#[derive(Clone, Copy)]
 pub struct Bus {
     pub mode: Mode,
     pub state: State,
@@ -100,20 +102,20 @@ pub struct Bus {
 }
 
 // An address that 32 or 33 gave.
-#[derive(Drop)]
+#[derive(Clone, Copy)]
 pub enum EraseMark {
     Unset,
     At(u32),
 }
 
-#[derive(Drop)]
+#[derive(Clone, Copy)]
 pub struct EraseMarks {
     pub first: EraseMark,
     pub second: EraseMark,
 }
 
 // The status bits that the card keeps, but COM_CRC_ERROR.
-#[derive(Drop)]
+#[derive(Clone, Copy)]
 pub struct Kept {
     pub out_of_range: bool,
     pub address_error: bool,
@@ -128,7 +130,7 @@ pub struct Kept {
 }
 
 // All that a command can read or change.
-#[derive(Drop)]
+#[derive(Clone, Copy)]
 pub struct Core {
     pub settings: Settings,
     pub csd: Csd,
@@ -147,20 +149,20 @@ pub struct Core {
 
 // The password, none where the length is 0. It stands beside the core: no command looks at it, and a block of 42 hands the core
 // nothing but whether its operation succeeds.
-#[derive(Drop)]
+#[derive(Clone, Copy)]
 pub struct Password {
     pub bytes: [u8; 16],
     pub length: u8,
 }
 
 // What the line alone knows: no command looks at it.
-#[derive(Drop)]
+#[derive(Clone, Copy)]
 pub struct Line {
     pub com_crc_error: bool,
 }
 
 // What the card keeps between calls, a struct by value.
-#[derive(Drop)]
+#[derive(Clone, Copy)]
 pub struct Card {
     pub core: Core,
     pub password: Password,

@@ -1,5 +1,5 @@
 // The block of 42: what it asks for.
-#[derive(Drop)]
+#[derive(Clone, Copy)]
 pub enum Operation {
     ForceErase,
     Lock,

@@ -1,4 +1,6 @@
 // A data block in. The record by value and back; memory is lent.
+#![tactic(auto)]
+
 ghost use Rattle.std.specs.Prelude.{◌≡◌, []};
 ghost use Rattle.card.specs.Step.{block_in};
 ghost use Rattle.card_call.specs.Seen.{returned, stepped};

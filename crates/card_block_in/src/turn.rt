@@ -22,7 +22,7 @@ use card_state::sink;
 use card_status::{OUT_OF_RANGE, WP_VIOLATION};
 
 // An open transfer of 24 or 25.
-#[derive(Drop)]
+#[derive(Clone, Copy)]
 pub(crate) struct Transfer {
     multiple: bool,
     address: u32,

@@ -1,4 +1,6 @@
 // What a call returns: its answer and the record.
+#![tactic(auto)]
+
 ghost use Rattle.std.specs.Prelude.{◌≡◌};
 ghost use Rattle.codec.specs.Answer.{encoded};
 ghost use Rattle.card.specs.Step.{answer};
@@ -8,7 +10,7 @@ use card::answer::Answer;
 use card::{Card, Core, Password};
 use codec::Encoded;
 
-#[derive(Drop)]
+#[derive(Clone, Copy)]
 pub struct Stepped {
     pub answer: Answer,
     pub card: Card,

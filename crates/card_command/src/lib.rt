@@ -1,4 +1,6 @@
 // The call of a command frame: its refusals, the frame rules, the effect on memory and marks, and the response on the line.
+#![tactic(auto)]
+
 ghost use Rattle.std.specs.Prelude.{◌≡◌};
 ghost use Rattle.card.specs.Step.{world, show, command_frame};
 ghost use Rattle.card_call.specs.Seen.{returned, seen, stepped};

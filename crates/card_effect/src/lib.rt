@@ -1,4 +1,6 @@
 // What a call does to memory and protection marks, in one place. An effect that memory has no room for does nothing.
+#![tactic(auto)]
+
 ghost use Rattle.std.specs.Prelude.{◌≡◌, cond, ◌+◌, ◌-◌, ◌*◌, ◌^◌, ◌<◌, ◌≤◌, leb, length, replicate};
 ghost use Rattle.card.specs.Settings.{BLOCK};
 ghost use Rattle.card.specs.Effects.{stored, over, swept_block, swept, affected};

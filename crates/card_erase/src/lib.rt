@@ -1,4 +1,6 @@
 // Erase: 32 and 33 give the first and the second address, 38 erases from the block of one through that of the other.
+#![tactic(auto)]
+
 ghost use Rattle.std.specs.Prelude.{◌≡◌, ◌≤◌};
 ghost use Rattle.card.specs.Execute.{settled, erase_start, erase_end, skipped, erased, erase};
 

@@ -1,4 +1,6 @@
 // SD mode: what a frame shows, and what a command that ran clears.
+#![tactic(auto)]
+
 ghost use Rattle.std.specs.Prelude.{◌≡◌};
 ghost use Rattle.card.specs.Frame.{cleared, finish};
 ghost use Rattle.card.specs.Receive.{chosen, shown_sd, show_sd};

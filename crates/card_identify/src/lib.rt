@@ -1,4 +1,6 @@
 // The commands that identify the card: 3, 8 and A41; and SPI mode's own, 58 and 59.
+#![tactic(auto)]
+
 ghost use Rattle.std.specs.Prelude.{◌≡◌, ◌/◌, ◌%◌, ◌^◌, if◌then◌else◌, nat_eq};
 ghost use Rattle.card.specs.declared.done.Response.TheVariants.{R6};
 ghost use Rattle.card.specs.Execute.{ran, moved, next_rca, send_if_cond, send_op_cond, send_op_cond_spi, sd_send_op_cond, read_ocr, crc_on_off};

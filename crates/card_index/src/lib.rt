@@ -1,4 +1,6 @@
 // The command that the card takes an index for: the first row that fits.
+#![tactic(auto)]
+
 ghost use Rattle.std.specs.Prelude.{◌≡◌};
 ghost use Rattle.card.specs.Table.{commands, is_application, takes, fits, find, own, command_of};
 

@@ -1,4 +1,6 @@
 // The block of 42 beside the password: what it asks for, whether that succeeds, and the password behind it. No core is here.
+#![tactic(auto)]
+
 ghost use Rattle.std.specs.Prelude.{◌≡◌};
 ghost use Rattle.card.specs.Lock.{operation_of, operation, succeeds, changed};
 ghost use Rattle.card_lock.specs.Relock.{Room, relocked};
@@ -12,7 +14,7 @@ use card_password::part::behind;
 use card_password::{is_set, matches, replaces, store};
 
 // Whether the operation succeeds, and the password behind it.
-#[derive(Drop)]
+#[derive(Clone, Copy)]
 pub struct Relocked {
     pub success: bool,
     pub password: Password,

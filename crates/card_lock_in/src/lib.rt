@@ -1,4 +1,6 @@
 // A block of 42: 101 for a wrong check; else its operation, or LOCK_UNLOCK_FAILED. The record by value and back; memory is lent.
+#![tactic(auto)]
+
 ghost use Rattle.std.specs.Prelude.{◌≡◌, []};
 ghost use Rattle.card.specs.Data.{acted, effect_of};
 ghost use Rattle.card_call.specs.Seen.{returned};

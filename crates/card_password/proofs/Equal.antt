@@ -1,6 +1,6 @@
 -- Lists compared element by element.
 use mathlib.Core.Path.{◌≡◌, refl, ap}
-use mathlib.Core.Bool.{Bool, false, true, ◌&&◌, and_false}
+use mathlib.Core.Bool.{Bool, false, true, ◌&&◌, and-false}
 use mathlib.Core.List.{List, [], ◌∷◌}
 use Prim.Native.Nat.{ℕ, suc, ◌+◌, ◌≤◌, ◌<◌}
 use native.Mathlib.Numerals.{add-one}
@@ -15,7 +15,7 @@ unfolding equal
 lengths_differ [] [] n = absurd (n refl)
 lengths_differ [] (y ∷ b) n = refl
 lengths_differ (x ∷ a) [] n = refl
-lengths_differ (x ∷ a) (y ∷ b) n = rw (lengths_differ a b (λ e. n (ap suc e)), and_false)
+lengths_differ (x ∷ a) (y ∷ b) n = rw (lengths_differ a b (λ e. n (ap suc e)), and-false)
 
 -- what was looked at is right, and one more is looked at
 pub right-more : (a b : List ℕ) (i : ℕ) → i < length a → i < length b → (right : Bool) (all : Bool)

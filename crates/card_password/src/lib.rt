@@ -1,4 +1,6 @@
 // The password: as it is stored, and held against data.
+#![tactic(auto)]
+
 ghost use Rattle.std.specs.Prelude.{◌≡◌, take};
 ghost use Rattle.card.specs.Settings.{PASSWORD};
 ghost use Rattle.card.specs.Soundness.{equal};

@@ -1,4 +1,6 @@
 // Power up, and busy over. The record by value and back; memory is lent.
+#![tactic(auto)]
+
 ghost use Rattle.std.specs.Prelude.{◌≡◌, []};
 ghost use Rattle.card.specs.Step.{fresh, start, unpowered, power_up, busy_over};
 ghost use Rattle.card_call.specs.Seen.{returned, stepped};

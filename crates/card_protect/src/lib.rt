@@ -1,4 +1,6 @@
 // Protection of blocks: groups with a mark each, eight marks to a byte, the lowest first; and the protected card.
+#![tactic(auto)]
+
 ghost use Rattle.std.specs.Prelude.{◌≡◌, ◌||◌, ◌&&◌, [], ◌∷◌, ◌++◌, ℕ, ◌+◌, ◌-◌, ◌*◌, ◌/◌, ◌<◌, ◌≤◌, ltb};
 ghost use Rattle.crc.specs.Bits.{bit, bits};
 ghost use Rattle.card.specs.Settings.{BLOCK, GROUP};

@@ -1,4 +1,6 @@
 // A frame, in the bus mode that the card is in.
+#![tactic(auto)]
+
 ghost use Rattle.std.specs.Prelude.{◌≡◌};
 ghost use Rattle.card.specs.Receive.{receive};
 ghost use Rattle.card_turn.specs.Turned.{turned};

@@ -1,4 +1,6 @@
 // The record's parts, one update for each.
+#![tactic(auto)]
+
 pub mod erase;
 
 ghost use Rattle.std.specs.Prelude.{◌≡◌};

@@ -1,4 +1,6 @@
 // Which rows of the table of refused calls apply to what a call is handed, and the first of a call's own rows that does.
+#![tactic(auto)]
+
 ghost use Rattle.std.specs.Prelude.{◌≡◌};
 ghost use Rattle.card.specs.Step.{applies, refusal};
 ghost use Rattle.codec.specs.Answer.{nonzero};

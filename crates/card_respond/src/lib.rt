@@ -1,4 +1,6 @@
 // A message on the line: its response as a prefix of the output buffer.
+#![tactic(auto)]
+
 ghost use Rattle.std.specs.Prelude.{◌≡◌, ◌+◌, ◌%◌, ◌^◌, ◌≤◌, [], ◌∷◌, ◌++◌, length};
 ghost use Rattle.codec.specs.Format.{image};
 ghost use Rattle.wire_response.specs.Response.{r1, r2_bytes, r3, r6, r7};
@@ -16,7 +18,7 @@ use wire_response::status::short_status;
 use wire_response::{encode_r1, encode_r2, encode_r3, encode_r6, encode_r7};
 
 // What stands behind R1 in SPI mode.
-#[derive(Drop)]
+#[derive(Clone, Copy)]
 pub enum Behind {
     Nothing,
     // the second byte of R2
@@ -25,7 +27,7 @@ pub enum Behind {
     Word(u32),
 }
 
-#[derive(Drop)]
+#[derive(Clone, Copy)]
 pub enum Message {
     // SD mode: the response of a command, with the index that R1 shows and the status of R1 and R6, which lacks COM_CRC_ERROR
     Sd {

@@ -1,4 +1,6 @@
 // What each command does when it runs.
+#![tactic(auto)]
+
 ghost use Rattle.std.specs.Prelude.{◌≡◌};
 ghost use Rattle.card.specs.Execute.{run, run_at};
 

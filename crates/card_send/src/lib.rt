@@ -1,4 +1,6 @@
 // The answers of a take: a payload straight into the output buffer with its check, and its token in SPI mode; or a transfer that is held.
+#![tactic(auto)]
+
 ghost use Rattle.std.specs.Prelude.{◌≡◌, List, ℕ, replicate};
 ghost use Rattle.card.specs.declared.State.TheVariants.{Tran};
 ghost use Rattle.card.specs.Settings.{cid_bytes, csd_bytes, scr_bytes};

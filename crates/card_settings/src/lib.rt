@@ -1,4 +1,6 @@
 // Sizes of the card, the settings that are allowed, and the CSD that they give.
+#![tactic(auto)]
+
 ghost use Rattle.std.specs.Prelude.{◌≡◌, ◌+◌, ◌-◌, ◌*◌, ◌/◌};
 ghost use Rattle.card.specs.declared.Settings.{Settings};
 ghost use Rattle.card.specs.Settings.{BLOCK, GROUP, address_of, allowed, csd_of};

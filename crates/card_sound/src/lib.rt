@@ -1,4 +1,6 @@
 // Which records are unsound.
+#![tactic(auto)]
+
 ghost use Rattle.std.specs.Prelude.{◌≡◌, take, drop};
 ghost use Rattle.card.specs.Soundness.{unsound, unsound_tests, any_of, bad_password};
 

@@ -1,4 +1,6 @@
 // SPI mode: what a frame shows, and what a command that ran clears.
+#![tactic(auto)]
+
 ghost use Rattle.std.specs.Prelude.{◌≡◌, [], ◌∷◌, eqb};
 ghost use Rattle.crc.specs.Bits.{bits, bytes};
 ghost use Rattle.card.specs.State.{idle, number};

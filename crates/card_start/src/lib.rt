@@ -1,4 +1,6 @@
 // What the commands share: what one that ran comes to, moves by the transition table, and start checks.
+#![tactic(auto)]
+
 pub mod checks;
 pub mod done;
 pub mod moves;

@@ -1,4 +1,6 @@
 // The number of a state, the bus mode, and what a state has open: every question that is asked of a state goes by these.
+#![tactic(auto)]
+
 ghost use Rattle.std.specs.Prelude.{◌≡◌, ◌≤◌};
 ghost use Rattle.card.specs.State.{number, arrive, in_spi, checking, unchecked, spi_number, number_in, open_of, reading, writing, busy, sink_locks, sink_multiple, writing_multiple, locking, source_address, sink_address, transfer_address, sink};
 

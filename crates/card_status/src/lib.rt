@@ -1,4 +1,6 @@
 // The status bits that the card keeps, and the word that a response shows.
+#![tactic(auto)]
+
 pub mod word;
 
 ghost use Rattle.std.specs.Prelude.{◌≡◌};

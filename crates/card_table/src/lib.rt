@@ -1,4 +1,6 @@
 // The transition table: a row for each command.
+#![tactic(auto)]
+
 ghost use Rattle.std.specs.Prelude.{◌≡◌, ◌*◌, ◌/◌, ◌%◌, ◌^◌, ◌≤◌};
 ghost use Rattle.card.specs.Table.{row, moves, shows_app, sets_app, misses, accepts, legal, after};
 ghost use Rattle.card_table.specs.Packed.{lead_or, packed_row};
@@ -7,7 +9,7 @@ use card::command::{Command, Kind, Rca};
 use card::{Bus, State};
 use card_state::{arrive, in_spi, number_in};
 
-#[derive(Drop)]
+#[derive(Clone, Copy)]
 pub struct Columns {
     pub index: u8,
     pub kind: Kind,

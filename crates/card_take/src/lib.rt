@@ -1,4 +1,6 @@
 // Take a block. The record by value and back; memory and the output buffer are lent.
+#![tactic(auto)]
+
 ghost use Rattle.std.specs.Prelude.{◌≡◌};
 ghost use Rattle.card.specs.Step.{take_block};
 ghost use Rattle.card_call.specs.Seen.{returned, stepped};

@@ -1,4 +1,6 @@
 // The tokens of blocks in SPI mode, and the sizes of blocks in either mode. No other code of a block asks for the mode.
+#![tactic(auto)]
+
 ghost use Rattle.std.specs.Prelude.{◌≡◌, Bool, ◌≤◌};
 ghost use Rattle.card.specs.Spi.{start_token};
 ghost use Rattle.card.specs.Step.{token_size, token_in, incoming};
@@ -19,7 +21,7 @@ const START_MULTIPLE: u8 = 0xFC;
 const STOP_TRAN: u8 = 0xFD;
 
 // What a block is behind its framing: a packet; the stop token of 25; or behind a wrong token.
-#[derive(Drop)]
+#[derive(Clone, Copy)]
 pub enum Arrived {
     Packet,
     Stop,

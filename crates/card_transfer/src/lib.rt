@@ -1,4 +1,6 @@
 // The commands that open a transfer, set its block length, or change protection.
+#![tactic(auto)]
+
 ghost use Rattle.std.specs.Prelude.{◌≡◌};
 ghost use Rattle.card.specs.declared.Source.TheVariants.{WriteProtect};
 ghost use Rattle.card.specs.declared.State.TheVariants.{Data, Rcv};

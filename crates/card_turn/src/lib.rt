@@ -1,4 +1,6 @@
 // What a frame comes to, in either bus mode, and the record that it leaves.
+#![tactic(auto)]
+
 ghost use Rattle.std.specs.Prelude.{◌≡◌, [], ◌∷◌};
 ghost use Rattle.card.specs.Record.{with_marks};
 ghost use Rattle.card.specs.Frame.{plain, quiet, said};
@@ -10,7 +12,7 @@ use card::{Card, Core, Line, Password};
 use card_record::with_marks;
 use card_respond::Message;
 
-#[derive(Drop)]
+#[derive(Clone, Copy)]
 pub struct Turned {
     pub core: Core,
     pub flag: Flag,

@@ -1,5 +1,7 @@
 // What the encoders and decoders share: the refusals' numbers, an encoder's answer, and words of bits built and taken
 // apart by shifts and masks.
+#![tactic(auto)]
+
 ghost use Rattle.std.specs.Prelude.{◌≡◌, [], ◌∷◌, ◌++◌, true, ◌*◌, ◌/◌, ◌%◌, ◌^◌, min, length, take, drop};
 ghost use Rattle.crc.specs.Bits.{bits, number, bits_of, bytes};
 ghost use Rattle.crc.specs.Crc.{crc, poly7};
@@ -15,7 +17,7 @@ pub const WRONG: u8 = 7;
 pub const FIELD: u8 = 8;
 
 // How many bytes an encoder wrote, or the number of its refusal.
-#[derive(Drop)]
+#[derive(Clone, Copy)]
 pub enum Encoded {
     Wrote(usize),
     Refused(u8),

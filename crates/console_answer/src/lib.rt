@@ -1,4 +1,6 @@
 // The console's own calls of the card: a power-up with any settings and password, a block of any size, and a take in either bus mode.
+#![tactic(auto)]
+
 pub mod response;
 
 use card::Card;

@@ -1,4 +1,6 @@
 // The lines of a console that call the card with the memory that it is lent.
+#![tactic(auto)]
+
 use card::Card;
 use console_answer::{block, take};
 use console_read::call::{Word, read};

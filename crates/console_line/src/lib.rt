@@ -1,4 +1,6 @@
 // A console's line, played.
+#![tactic(auto)]
+
 use card::Card;
 use console_answer::power;
 use console_call::call;

@@ -1,4 +1,6 @@
 // The console's memory: what is lent of it, and a block of it on a line.
+#![tactic(auto)]
+
 ghost use Rattle.std.specs.Prelude.{◌≡◌, ◌*◌, ◌≤◌, min};
 
 use card::answer::Answer;

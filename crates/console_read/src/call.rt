@@ -4,7 +4,7 @@ use replay_read::fields::{begins, equals};
 use replay_read::hex::unhex;
 
 // The first word; every other line is read as in the replay program.
-#[derive(Drop)]
+#[derive(Clone, Copy)]
 pub enum Word {
     Blk,
     Low,
@@ -13,7 +13,7 @@ pub enum Word {
 }
 
 // A line as it was read: the word, and the bytes of its field in front of zeros.
-#[derive(Drop)]
+#[derive(Clone, Copy)]
 pub struct Input {
     pub word: Word,
     pub count: usize,

@@ -1,4 +1,6 @@
 // The settings of a power-up, as its line has them.
+#![tactic(auto)]
+
 pub mod call;
 pub mod password;
 
@@ -7,7 +9,7 @@ use codec::{word, word32};
 use replay_read::hex::unhex;
 
 // Settings, or a line that cannot be read.
-#[derive(Drop)]
+#[derive(Clone, Copy)]
 pub enum SettingsRead {
     Read(Settings),
     Unreadable,

@@ -2,7 +2,7 @@
 use card::Password;
 use replay_read::hex::unhex;
 
-#[derive(Drop)]
+#[derive(Clone, Copy)]
 pub struct PasswordRead {
     pub readable: bool,
     pub password: Password,

@@ -1,4 +1,6 @@
 // The loop over an input, on any card.
+#![tactic(auto)]
+
 use console_line::end_line;
 use replay_answer::Session;
 use replay_answer::bench::{bench, blank};

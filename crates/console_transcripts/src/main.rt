@@ -1,4 +1,6 @@
 // Plays the stored transcripts of the console one after the other, each from its beginning, as the console does.
+#![tactic(auto)]
+
 fn console(name: &[u8]) {
     let fd = os::open_read(name);
     if fd < 0 {

@@ -1,5 +1,7 @@
 // The two checks of the wire: CRC7 of command frames, responses and registers, CRC16 of data packets.
 // Both keep the register at the top of its word, so that a whole byte enters at once.
+#![tactic(auto)]
+
 ghost use Rattle.std.specs.Prelude.{◌≡◌, false, [], ◌∷◌, ◌++◌};
 ghost use Rattle.crc.specs.Bits.{bits};
 ghost use Rattle.crc.specs.Crc.{poly7, shift, turns, crc7_of, crc16_of};

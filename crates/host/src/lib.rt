@@ -1,7 +1,8 @@
 // The host that brings a card up (02, order 2): its types. What its calls do with them is in specs/, and no code is here.
+#![tactic(auto)]
 
 // The commands of the sequence, by the standard's names, in the order in which they are sent.
-#[derive(Drop)]
+#[derive(Clone, Copy)]
 pub enum Command {
     GoIdleState,
     SendIfCond,
@@ -14,7 +15,7 @@ pub enum Command {
 }
 
 // Where the host stands: nothing is sent yet; the answer to a command is due; it has ended.
-#[derive(Drop)]
+#[derive(Clone, Copy)]
 pub enum Phase {
     Start,
     Sent(Command),
@@ -22,7 +23,7 @@ pub enum Phase {
 }
 
 // What the host knows of the card: its address, and CID and CSD as they were received.
-#[derive(Drop)]
+#[derive(Clone, Copy)]
 pub struct Found {
     pub rca: u16,
     pub cid: [u8; 16],
@@ -30,7 +31,7 @@ pub struct Found {
 }
 
 // What the host keeps between steps, a struct by value.
-#[derive(Drop)]
+#[derive(Clone, Copy)]
 pub struct Host {
     // how many A41 may be sent, and how many were
     pub limit: u16,
@@ -40,7 +41,7 @@ pub struct Host {
 }
 
 // Why a reply is not the expected one.
-#[derive(Drop)]
+#[derive(Clone, Copy)]
 pub enum Reason {
     // the number of the decoder's refusal
     Refused(u8),
@@ -51,7 +52,7 @@ pub enum Reason {
 }
 
 // The answer of a step.
-#[derive(Drop)]
+#[derive(Clone, Copy)]
 pub enum Answer {
     // the next frame: so many bytes of the output buffer
     Sent(usize),
@@ -63,21 +64,21 @@ pub enum Answer {
     Refused(u8),
 }
 
-#[derive(Drop)]
+#[derive(Clone, Copy)]
 pub struct Stepped {
     pub answer: Answer,
     pub host: Host,
 }
 
 // The answer of a start.
-#[derive(Drop)]
+#[derive(Clone, Copy)]
 pub enum Beginning {
     Begun,
     Refused(u8),
 }
 
 // Where the start is refused, every step of the record is refused too.
-#[derive(Drop)]
+#[derive(Clone, Copy)]
 pub struct Started {
     pub answer: Beginning,
     pub host: Host,
@@ -86,7 +87,7 @@ pub struct Started {
 // ---- a row of the sequence
 
 // The answer that is expected. An R2 carries one of two registers.
-#[derive(Drop)]
+#[derive(Clone, Copy)]
 pub enum Kind {
     Silence,
     R1,
@@ -98,13 +99,13 @@ pub enum Kind {
 }
 
 // What follows the expected answer.
-#[derive(Drop)]
+#[derive(Clone, Copy)]
 pub enum Next {
     Send(Command),
     Selected,
 }
 
-#[derive(Drop)]
+#[derive(Clone, Copy)]
 pub struct Row {
     pub index: u8,
     pub argument: u32,
@@ -114,7 +115,7 @@ pub struct Row {
 
 // ---- a reply
 
-#[derive(Drop)]
+#[derive(Clone, Copy)]
 pub enum Judgement {
     Expected,
     // an R3 with bit 31 clear
@@ -123,7 +124,7 @@ pub enum Judgement {
 }
 
 // The judgement, and what is known of the card then.
-#[derive(Drop)]
+#[derive(Clone, Copy)]
 pub struct Heard {
     pub judgement: Judgement,
     pub found: Found,

@@ -1,5 +1,7 @@
 // A reply of the card, held against the answer that a command expects. Each kind's decoder first; what it read is taken apart by
 // let .. else.
+#![tactic(auto)]
+
 ghost use Rattle.std.specs.Prelude.{◌≡◌, cond, eqb};
 ghost use Rattle.codec.specs.Answer.{why};
 ghost use Rattle.wire_response.specs.Response.{decode_r2};
@@ -14,7 +16,7 @@ use wire_response_decode::{
 };
 
 // What `decode_r2` says by its number.
-#[derive(Drop)]
+#[derive(Clone, Copy)]
 enum R2Read {
     Register,
     Refused,

@@ -1,4 +1,6 @@
 // The sequence, a row for each command; what makes a poll, and what echoes 8.
+#![tactic(auto)]
+
 ghost use Rattle.std.specs.Prelude.{◌≡◌, ◌&&◌, eqb, leb};
 ghost use Rattle.host.specs.Sequence.{VOLTAGE, PATTERN, SD_SEND_OP_COND, columns, row};
 ghost use Rattle.host.specs.Host.{of_poll};

@@ -1,5 +1,7 @@
 // The host's two calls. The record by value and back; each step is fed the card's answer to the frame before, and writes the next
 // frame into a lent buffer.
+#![tactic(auto)]
+
 ghost use Rattle.std.specs.Prelude.{◌≡◌};
 ghost use Rattle.host.specs.Host.{start, started, step, begun, stepped};
 

@@ -9,7 +9,7 @@ ghost use Rattle.reg_cid.specs.Cid.{cid, cid_values, cid_read};
 use crate::content::Words;
 use codec::Encoded;
 
-#[derive(Drop)]
+#[derive(Clone, Copy)]
 pub struct Cid {
     pub mid: u8,
     pub oid: u16,
@@ -20,7 +20,7 @@ pub struct Cid {
 }
 
 // A CID that was decoded, or the number of the refusal.
-#[derive(Drop)]
+#[derive(Clone, Copy)]
 pub enum CidRead {
     Fields(Cid),
     Refused(u8),

@@ -8,7 +8,7 @@ ghost use Rattle.reg_cid.specs.Content.{sixteen, emitted, verdict};
 use codec::Encoded;
 
 // 64 and 56 bits of content.
-#[derive(Drop)]
+#[derive(Clone, Copy)]
 pub struct Words {
     pub first: u64,
     pub rest: u64,

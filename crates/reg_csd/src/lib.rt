@@ -1,4 +1,6 @@
 // CSD 1.0: the card specific data register, encoded.
+#![tactic(auto)]
+
 ghost use Rattle.std.specs.Prelude.{◌≡◌, ◌++◌, ◌/◌, ◌^◌, take, drop};
 ghost use Rattle.crc.specs.Bits.{bits};
 ghost use Rattle.codec.specs.Answer.{encoding};
@@ -10,7 +12,7 @@ ghost use Rattle.reg_csd.specs.Csd.{csd, csd_slots, csd_values};
 use codec::{Encoded, join};
 use reg_cid::content::{Words, flag, wide};
 
-#[derive(Drop)]
+#[derive(Clone, Copy)]
 pub struct Csd {
     pub csd_structure: u8,
     pub taac: u8,

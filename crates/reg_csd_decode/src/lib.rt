@@ -1,4 +1,6 @@
 // CSD 1.0, decoded.
+#![tactic(auto)]
+
 ghost use Rattle.std.specs.Prelude.{◌≡◌};
 ghost use Rattle.codec.specs.Layout.{read};
 ghost use Rattle.codec.specs.Format.{decode};
@@ -10,7 +12,7 @@ use codec::field;
 use reg_csd::Csd;
 
 // A CSD that was decoded, or the number of the refusal.
-#[derive(Drop)]
+#[derive(Clone, Copy)]
 pub enum CsdRead {
     Fields(Csd),
     Refused(u8),

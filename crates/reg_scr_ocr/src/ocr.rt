@@ -9,7 +9,7 @@ ghost use Rattle.reg_scr_ocr.specs.Ocr.{ocr, ocr_values, ocr_read};
 use codec::{Encoded, field, join};
 use reg_cid::content::flag;
 
-#[derive(Drop)]
+#[derive(Clone, Copy)]
 pub struct Ocr {
     // bit 31: clear while the card is busy powering up
     pub busy: bool,
@@ -20,7 +20,7 @@ pub struct Ocr {
 }
 
 // An OCR that was decoded, or the number of the refusal.
-#[derive(Drop)]
+#[derive(Clone, Copy)]
 pub enum OcrRead {
     Fields(Ocr),
     Refused(u8),

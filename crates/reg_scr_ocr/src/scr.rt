@@ -9,7 +9,7 @@ ghost use Rattle.reg_scr_ocr.specs.Scr.{scr, scr_values, scr_read};
 use codec::{Encoded, field, join};
 use reg_cid::content::flag;
 
-#[derive(Drop)]
+#[derive(Clone, Copy)]
 pub struct Scr {
     pub scr_structure: u8,
     pub sd_spec: u8,
@@ -19,7 +19,7 @@ pub struct Scr {
 }
 
 // An SCR that was decoded, or the number of the refusal.
-#[derive(Drop)]
+#[derive(Clone, Copy)]
 pub enum ScrRead {
     Fields(Scr),
     Refused(u8),

@@ -1,6 +1,6 @@
 -- The search for the size pair, turn by turn.
 use mathlib.Core.Path.{◌≡◌, refl, sym, ap, ◌∙◌}
-use mathlib.Core.Bool.{Bool, true, false, cond, and_false}
+use mathlib.Core.Bool.{Bool, true, false, cond, and-false}
 use Prim.Native.Nat.{ℕ, zero, suc, ◌+◌, ◌-◌, ◌*◌, ◌/◌, ◌%◌, ◌^◌, ◌≤◌, ◌<◌}
 use native.Mathlib.Nat.{div-add-mod'}
 use native.Mathlib.Omega.{arith}
@@ -65,11 +65,11 @@ module _ (n mult unit : ℕ) (p : Passed n mult unit) where
 
   pub not-counted : n ≤ 0 → divides n mult ≡ false
   unfolding divides
-  not-counted h = simp (le-ltb 0 n h, and_false)
+  not-counted h = simp (le-ltb 0 n h, and-false)
 
   pub not-small : 4096 < n / unit → divides n mult ≡ false
   unfolding divides
-  not-small h = simp (lt-leb (n / 2 ^ (mult + 2)) 4096 (rw quotient at h), and_false)
+  not-small h = simp (lt-leb (n / 2 ^ (mult + 2)) 4096 (rw quotient at h), and-false)
 
 pub quotient_pos : (n u : ℕ) → n % u ≡ 0 → 0 < n → 1 ≤ n / u
 quotient_pos n u e h = go (n / u) (div-add-mod' n u)

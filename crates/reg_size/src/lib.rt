@@ -1,8 +1,10 @@
 // The size pair: a block count as C_SIZE and the smallest C_SIZE_MULT.
+#![tactic(auto)]
+
 ghost use Rattle.std.specs.Prelude.{◌≡◌};
 ghost use Rattle.reg_size.specs.Size.{size_pair};
 
-#[derive(Drop)]
+#[derive(Clone, Copy)]
 pub enum SizePair {
     Pair { c_size: u16, c_size_mult: u8 },
     NoPair,

@@ -1,4 +1,6 @@
 // A call's record, and its answer as a line of output. The call of a frame is in replay_line, since it rests on all commands.
+#![tactic(auto)]
+
 ghost use Rattle.std.specs.Prelude.{◌≡◌, List, ℕ, replicate};
 ghost use Rattle.card.specs.Step.{world, block_in, take_block, busy_over};
 ghost use Rattle.card_call.specs.Seen.{returned, stepped};
@@ -14,14 +16,14 @@ use codec::Encoded;
 use replay_write::Kind;
 
 // A session with the card: how much of a line has arrived, and how much of the text is answers.
-#[derive(Drop)]
+#[derive(Clone, Copy)]
 pub struct Session {
     pub card: Card,
     pub count: usize,
     pub wrote: usize,
 }
 
-#[derive(Drop)]
+#[derive(Clone, Copy)]
 pub struct Replayed {
     pub card: Card,
     // how many bytes of the text were written

@@ -1,4 +1,6 @@
 // The replay of lines on the card: each line of input gives one call, and one line of output.
+#![tactic(auto)]
+
 ghost use Rattle.std.specs.Prelude.{◌≡◌, replicate};
 ghost use Rattle.card.specs.Step.{command_frame};
 ghost use Rattle.card_call.specs.Seen.{stepped};

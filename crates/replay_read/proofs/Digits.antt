@@ -1,6 +1,6 @@
 -- Hex digits, a byte at a time: what a turn of the loop that reads them does.
 use mathlib.Core.Path.{◌≡◌, refl, sym, ap, ap₂, ◌∙◌}
-use mathlib.Core.Bool.{Bool, true, false, cond, ◌&&◌, and_false}
+use mathlib.Core.Bool.{Bool, true, false, cond, ◌&&◌, and-false}
 use mathlib.Core.List.{List, [], ◌∷◌, ◌++◌, append_assoc, append-nil}
 use Prim.Native.Nat.{ℕ, zero, suc, ◌+◌, ◌*◌, ◌/◌, ◌%◌, ◌^◌, ◌<◌, ◌≤◌}
 use native.Mathlib.Numerals.{add-one}
@@ -58,7 +58,7 @@ module _ (digits : List ℕ) (i high low : ℕ) (room : 2 * i + 1 < length digit
     high-wrong h = sym (sym inv ∙ all-pair ∙ rw (le-ltb high 16 (omega arith)))
 
     pub low-wrong : 15 < low → false ≡ all_hex digits
-    low-wrong h = sym (sym inv ∙ all-pair ∙ rw (le-ltb low 16 (omega arith), and_false))
+    low-wrong h = sym (sym inv ∙ all-pair ∙ rw (le-ltb low 16 (omega arith), and-false))
 
     pub all_more : high ≤ 15 → low ≤ 15 → all_hex (drop (2 * (i + 1)) digits) ≡ all_hex digits
     unfolding rest
@@ -115,7 +115,7 @@ module _ (digits out : List ℕ) where
   fills-odd n = fills-size (λ e. n (omega arith))
 
   pub fills-wrong : false ≡ all_hex digits → false ≡ fills digits out
-  fills-wrong a = sym (rw (sym a, and_false))
+  fills-wrong a = sym (rw (sym a, and-false))
 
   pub fills-right : (after : List ℕ) (r : Bool) → length digits ≡ 2 * length out → true ≡ all_hex digits → r ≡ all_hex digits
       → (r ≡ true → after ≡ unhex digits) → (r ≡ fills digits out) × (after ≡ cond r (unhex digits) out)

@@ -1,6 +1,6 @@
 -- Hex that was written is read back.
 use mathlib.Core.Path.{◌≡◌, refl, ap₂, ◌∙◌}
-use mathlib.Core.Bool.{true, and_false}
+use mathlib.Core.Bool.{true, and-false}
 use mathlib.Core.List.{List, [], ◌∷◌, ◌++◌}
 use Prim.Native.Nat.{ℕ, suc, ◌+◌, ◌-◌, ◌*◌, ◌/◌, ◌%◌, ◌<◌, ◌≤◌}
 use native.Mathlib.Omega.{arith}
@@ -24,7 +24,7 @@ low_digit n h =
 high_digit : (n : ℕ) → 10 ≤ n → n < 16 → hex_value (55 + n) ≡ n
 high_digit n l h =
     let e : 55 + n - 55 ≡ n = omega arith in
-    simp (lt-leb (55 + n) 57 (omega arith), le-leb 65 (55 + n) (omega arith), le-leb (55 + n) 70 (omega arith), and_false, e)
+    simp (lt-leb (55 + n) 57 (omega arith), le-leb 65 (55 + n) (omega arith), le-leb (55 + n) 70 (omega arith), and-false, e)
 
 value-digit : (n : ℕ) → n < 16 → hex_value (hex_digit n) ≡ n
 value-digit n h =

@@ -1,6 +1,6 @@
 -- Lists compared element by element, and parts of them.
 use mathlib.Core.Path.{◌≡◌, refl, sym, ap, ◌∙◌}
-use mathlib.Core.Bool.{Bool, true, false, ◌&&◌, and_false, false≢true}
+use mathlib.Core.Bool.{Bool, true, false, ◌&&◌, and-false, false≢true}
 use mathlib.Core.List.{List, [], ◌∷◌}
 use Prim.Native.Nat.{ℕ, suc, ◌+◌, ◌-◌, ◌≤◌, ◌<◌}
 use native.Mathlib.Nat.{sub-zero}
@@ -19,7 +19,7 @@ unfolding equal
 lengths_differ [] [] n = absurd (n refl)
 lengths_differ [] (y ∷ b) n = refl
 lengths_differ (x ∷ a) [] n = refl
-lengths_differ (x ∷ a) (y ∷ b) n = rw (lengths_differ a b (λ e. n (ap suc e)), and_false)
+lengths_differ (x ∷ a) (y ∷ b) n = rw (lengths_differ a b (λ e. n (ap suc e)), and-false)
 
 module _ (a b : List ℕ) (i : ℕ) (ha : i < length a) (hb : i < length b) (inv : equal (drop i a) (drop i b) ≡ equal a b) where
   rest : Bool

@@ -1,4 +1,6 @@
 // The replay program's lines of input: how they are collected, and what is read.
+#![tactic(auto)]
+
 ghost use Rattle.std.specs.Prelude.{◌≡◌, take, drop};
 ghost use Rattle.io.specs.Counts.{IsPrefixLen};
 ghost use Rattle.replay_read.specs.Read.{read_line, held};
@@ -8,7 +10,7 @@ pub mod fields;
 pub mod hex;
 
 // The first word of a line.
-#[derive(Drop)]
+#[derive(Clone, Copy)]
 pub enum Word {
     Cmd,
     Blk,
@@ -18,7 +20,7 @@ pub enum Word {
 }
 
 // A line as it was read: the word, and the bytes of its field in front of zeros.
-#[derive(Drop)]
+#[derive(Clone, Copy)]
 pub struct Input {
     pub word: Word,
     pub bytes: [u8; 514],

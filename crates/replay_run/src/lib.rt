@@ -1,4 +1,6 @@
 // The loop over an input, on the card of the bench.
+#![tactic(auto)]
+
 use replay_answer::Session;
 use replay_answer::bench::{bench, blank};
 use replay_read::{fill, front};

@@ -1,4 +1,6 @@
 // A session: each line of the input is played as soon as it has arrived, and its answer put behind the others in a text.
+#![tactic(auto)]
+
 ghost use Rattle.std.specs.Prelude.{◌≡◌};
 ghost use Rattle.replay_session.specs.Session.{line_ended, heard_all, session};
 

@@ -1,4 +1,6 @@
 // Replays the stored transcripts one after the other, each on a card of its own, as the replay program does.
+#![tactic(auto)]
+
 fn replay(name: &[u8]) {
     let fd = os::open_read(name);
     if fd < 0 {

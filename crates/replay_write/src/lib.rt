@@ -1,4 +1,6 @@
 // The replay program's lines of output.
+#![tactic(auto)]
+
 ghost use Rattle.std.specs.Prelude.{◌≡◌, ◌+◌, ◌≤◌, min, length, replicate};
 ghost use Rattle.codec.specs.Answer.{encoded, encoding};
 ghost use Rattle.card.specs.Step as Step;
@@ -13,7 +15,7 @@ use replay_read::front;
 use text::{bytes_line, put, refusal};
 
 // What is sent is a command, a response, a data block, or a block of the program's memory.
-#[derive(Drop)]
+#[derive(Clone, Copy)]
 pub enum Kind {
     Command,
     Response,

@@ -1,4 +1,6 @@
 // Commands 18 and 25 on the proved card, in either bus mode, exported for a Rust program to measure.
+#![tactic(auto)]
+
 ghost use Rattle.std.specs.Prelude.{◌≡◌, [], ◌≤◌};
 ghost use Rattle.card.specs.Step.{answer, take_block};
 ghost use Rattle.speed_open.specs.Begun.{begun};

@@ -1,4 +1,6 @@
 // The proved functions that are measured, exported for a Rust program to link.
+#![tactic(auto)]
+
 ghost use Rattle.std.specs.Prelude.{◌≡◌};
 ghost use Rattle.crc.specs.Crc.{crc16_of};
 

@@ -1,4 +1,6 @@
 // A card that is brought up in either bus mode, with checks on, and given a command.
+#![tactic(auto)]
+
 ghost use Rattle.std.specs.Prelude.{◌≡◌, cond};
 ghost use Rattle.speed_open.specs.Begun.{settings, powered, heard, begun};
 ghost use Rattle.card.specs.Step.{world};

@@ -1,4 +1,6 @@
 // Vectors of the command frames: encoded from index and argument, decoded back, and frames that are refused; then R1.
+#![tactic(auto)]
+
 mod status;
 
 use vectors_print::{byte, encoded, end, given, indexed, refused, space, text, word};

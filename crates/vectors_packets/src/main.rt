@@ -1,5 +1,7 @@
 // Runs the worked samples of the standard and further computed vectors of the two checks and of packets through the
 // public functions, and prints what comes out, a line each. tools/vectors.py works the lines out independently.
+#![tactic(auto)]
+
 mod checks;
 mod packets;
 

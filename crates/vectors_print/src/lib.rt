@@ -1,4 +1,6 @@
 // Text and capital hex on standard output.
+#![tactic(auto)]
+
 pub fn text(s: &[u8]) {
     io::write_all(1, s);
 }

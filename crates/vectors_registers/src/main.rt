@@ -1,4 +1,6 @@
 // Vectors of the CSD and the CID.
+#![tactic(auto)]
+
 mod cids;
 mod csds;
 

@@ -1,4 +1,6 @@
 // Vectors of the responses other than R1: encoded from their fields, and decoded.
+#![tactic(auto)]
+
 use vectors_print::{byte, encoded, end, given, half, hex, refused, space, text, word};
 use wire_response_decode::{R3Read, R6Read, R7Read};
 

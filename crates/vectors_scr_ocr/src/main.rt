@@ -1,4 +1,6 @@
 // Vectors of the SCR, the OCR and the size pair.
+#![tactic(auto)]
+
 mod registers_of;
 mod sizes;
 

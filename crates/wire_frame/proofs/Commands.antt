@@ -1,6 +1,6 @@
 -- The command frame: its first byte has start bit 0, transmission bit 1 and the index; its check comes after these.
 use mathlib.Core.Path.{◌≡◌, refl, sym, ap, ap₂, ◌∙◌}
-use mathlib.Core.Bool.{Bool, true, false, cond, not, ◌&&◌, ◌||◌, and-eq-true_iff, and-true, or_false}
+use mathlib.Core.Bool.{Bool, true, false, cond, not, ◌&&◌, ◌||◌, and-eq-true_iff, and-true, or-false}
 use mathlib.Core.List.{List, [], ◌∷◌, ◌++◌}
 use Prim.Native.Nat.{ℕ, ◌/◌, ◌%◌, ◌^◌, ◌<◌}
 use native.Mathlib.Nat.{mod-eq_of_lt}
@@ -75,7 +75,7 @@ checked_by = record { on = on; good = stays }
     on : (s : List ℕ) → frame_check_by true s ≡ frame_check s
     on s =
         ap (λ (q : Bool). cond (eqb (length s) 6) (cond (judged command.slots (bits_of s)) (cond q (good (read command.slots (bits_of s))) Check) Start) Size)
-        (or_false (right command s))
+        (or-false (right command s))
 
     cases : (t j q r : Bool) (k : FrameCheck) (index argument : ℕ) → cond t (cond j (cond q k Check) Start) Size ≡ Good index argument
         → cond t (cond j (cond (q || r) k Check) Start) Size ≡ Good index argument

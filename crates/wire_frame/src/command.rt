@@ -7,7 +7,7 @@ ghost use Rattle.wire_frame.specs.Command.{command, command_read, frame_check, f
 use codec::Encoded;
 
 // A frame's command, or what is wrong with it; the card treats the kinds differently.
-#[derive(Drop)]
+#[derive(Clone, Copy)]
 pub enum FrameCheck {
     Good { index: u8, argument: u32 },
     Size,
@@ -18,7 +18,7 @@ pub enum FrameCheck {
 }
 
 // A command that was decoded, or the number of the refusal.
-#[derive(Drop)]
+#[derive(Clone, Copy)]
 pub enum CommandRead {
     Command { index: u8, argument: u32 },
     Refused(u8),

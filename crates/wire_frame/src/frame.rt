@@ -7,7 +7,7 @@ ghost use Rattle.wire_frame.specs.Frame.{closing, encode_frame, read_frame, fram
 use codec::Encoded;
 
 // The content of a frame, or the number of the refusal.
-#[derive(Drop)]
+#[derive(Clone, Copy)]
 pub enum FrameRead {
     Content(u32),
     Refused(u8),

@@ -1,4 +1,6 @@
 // Data packets: a payload and its CRC16.
+#![tactic(auto)]
+
 ghost use Rattle.std.specs.Prelude.{◌≡◌};
 ghost use Rattle.codec.specs.Answer.{encoding, why, part};
 ghost use Rattle.wire_packet.specs.Packet.{encode_packet, decode_packet};

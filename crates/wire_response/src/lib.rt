@@ -1,4 +1,6 @@
 // Responses of the card: the encoders, one for each kind.
+#![tactic(auto)]
+
 pub mod status;
 
 ghost use Rattle.std.specs.Prelude.{◌≡◌, [], ◌∷◌};

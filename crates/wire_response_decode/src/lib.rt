@@ -1,4 +1,6 @@
 // The host's decoder of responses, a function for each kind. That of R1 is told the index.
+#![tactic(auto)]
+
 ghost use Rattle.std.specs.Prelude.{◌≡◌};
 ghost use Rattle.codec.specs.Answer.{why, part};
 ghost use Rattle.codec.specs.Format.{decode};
@@ -8,25 +10,25 @@ ghost use Rattle.wire_response_decode.specs.Reply.{r1_read, r3_read, r6_read, r7
 use codec::field32;
 use wire_frame::frame::FrameRead;
 
-#[derive(Drop)]
+#[derive(Clone, Copy)]
 pub enum R1Read {
     Status(u32),
     Refused(u8),
 }
 
-#[derive(Drop)]
+#[derive(Clone, Copy)]
 pub enum R3Read {
     Ocr(u32),
     Refused(u8),
 }
 
-#[derive(Drop)]
+#[derive(Clone, Copy)]
 pub enum R6Read {
     Published { rca: u16, status: u16 },
     Refused(u8),
 }
 
-#[derive(Drop)]
+#[derive(Clone, Copy)]
 pub enum R7Read {
     Echo { voltage: u8, pattern: u8 },
     Refused(u8),

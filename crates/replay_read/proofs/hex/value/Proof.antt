@@ -1,5 +1,5 @@
 -- `value` goes through the ranges of characters from below.
-use mathlib.Core.Bool.{and_false}
+use mathlib.Core.Bool.{and-false}
 use native.Mathlib.Omega.{arith}
 use borrow.Author.Rules.{rules}
 use borrow.Author.Tests.{le-leb, lt-leb}
@@ -12,9 +12,9 @@ value_spec =
     (tie.spec
     (λ c. let x = c.before.args.c in (simp (lt-leb 48 x (omega arith), lt-leb 65 x (omega arith)), omega arith))
     (λ c. let x = c.before.before.args.c in (simp (le-leb 48 x (omega arith), le-leb x 57 (omega arith)), omega arith))
-    (λ c. let x = c.before.before.before.args.c in (simp (lt-leb x 57 (omega arith), lt-leb 65 x (omega arith), and_false), omega arith))
+    (λ c. let x = c.before.before.before.args.c in (simp (lt-leb x 57 (omega arith), lt-leb 65 x (omega arith), and-false), omega arith))
     (λ c. search rules)
     (λ c.
     let x = c.before.before.before.before.args.c in
-    (simp (lt-leb x 57 (omega arith), le-leb 65 x (omega arith), le-leb x 70 (omega arith), and_false) (omega arith), omega arith))
-    (λ c. let x = c.before.before.before.before.args.c in (simp (lt-leb x 57 (omega arith), lt-leb x 70 (omega arith), and_false), omega arith)))
+    (simp (lt-leb x 57 (omega arith), le-leb 65 x (omega arith), le-leb x 70 (omega arith), and-false) (omega arith), omega arith))
+    (λ c. let x = c.before.before.before.before.args.c in (simp (lt-leb x 57 (omega arith), lt-leb x 70 (omega arith), and-false), omega arith)))

@@ -1,6 +1,6 @@
 -- `read` judges the size, the first byte and the last, and reads what is between.
 use mathlib.Core.Path.{◌≡◌, sym, ap, ◌∙◌}
-use mathlib.Core.Bool.{cond, ◌&&◌, and_false}
+use mathlib.Core.Bool.{cond, ◌&&◌, and-false}
 use borrow.Author.Rules.{rules}
 use borrow.Author.Tests.{le-ltb, lt-ltb, eq-eqb, ne_eqb}
 use lib.Dec.{eqb, ltb}
@@ -37,7 +37,7 @@ by_bytes c =
 wrong-last : tie.Need-returns-4
 wrong-last c =
     let s = c.before.before.before.before.before.before.before.before.before.args.s.now in
-    sym (by_bytes c.before ∙ simp (ne_eqb (get_or s 5 0) c.before.last.result c.if4.true, and_false))
+    sym (by_bytes c.before ∙ simp (ne_eqb (get_or s 5 0) c.before.last.result c.if4.true, and-false))
 
 found : tie.Need-returns-5
 found c =
