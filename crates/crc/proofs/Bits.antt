@@ -3,14 +3,13 @@ use mathlib.Core.Path.{◌≡◌, refl, sym, ap, ap₂, ◌∙◌}
 use mathlib.Core.Bool.{Bool, true, false}
 use mathlib.Core.List.{List, [], ◌∷◌, ◌++◌, append_assoc}
 use Prim.Native.Nat.{ℕ, zero, suc, ◌+◌, ◌*◌, ◌/◌, ◌%◌, ◌^◌, ◌<◌, ◌≤◌}
-use native.Mathlib.Nat.{add_comm, suc-add, mod-lt, mod-eq_of_lt, mul_comm, add_assoc, zero-add, mul_assoc, suc_inj, mul-suc, mod-one, mul-add-mod_self_right}
-use native.Mathlib.Numerals.{one-add, add-one}
+use native.Mathlib.Nat.{add_comm, suc-add, mod-lt, mod-eq_of_lt, zero-add, mul-suc, mod-one, mul-add-mod_self_right}
+use native.Mathlib.Numerals.{one-add}
 use native.Mathlib.Omega.{arith}
-use borrow.Author.Tests.{eqb-true, eqb-false}
-use lib.Arith.{digits_lt, lt-one}
+use lib.Arith.{digits_lt}
 use lib.Dec.{eqb}
-use lib.ListN.{length, get_or, take, drop, length-append, length-take, length-drop, take-append-drop}
-use lib.Pow.{pow_pos, pow-add, shr-shr, high, low, field, mod-mod-pow, mod-pow-add}
+use lib.ListN.{length, take, drop, length-append, length-drop, take-append-drop}
+use lib.Pow.{pow-add, shr-shr, high, field, mod-mod-pow, mod-pow-add}
 use lib.Seq.{take_at, drop_at, length-take-le, take-append-le, drop-append-le}
 use Rattle.crc.specs.Bits.{digit, bit, bits, number, Bytes, bits_of, bytes}
 

@@ -1,5 +1,5 @@
 -- The error-detection law, once over the polynomial: what it says, and what the polynomial must have for it.
-use Rattle.std.specs.Prelude.{◌≡◌, Bool, true, false, not, ◌&&◌, ◌||◌, List, [], ◌∷◌, ◌++◌, ℕ, zero, suc, ◌≤◌, T, leb, length}
+use Rattle.std.specs.Prelude.{◌≡◌, Bool, true, false, not, ◌&&◌, ◌||◌, List, [], ◌∷◌, ◌++◌, ℕ, zero, suc, ◌≤◌, leb, length}
 use Rattle.std.specs.Bool.{xor, beq}
 use Rattle.crc.specs.Crc.{◌⊕◌, shift, crc, clear}
 use Rattle.crc.specs.Altered.{Altered}

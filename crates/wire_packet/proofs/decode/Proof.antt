@@ -21,10 +21,10 @@ tested c =
     c.before.before.word32.ensures
     c.crc16.ensures
 
-wrong : tie.Need-returns-3
-wrong c = left _ (refused WRONG) (decode-wrong _ (omega arith) (omega arith) (tested c.before.before ∙ ne_eqb _ _ c.before.if3.true))
+wrong : tie.Need-returns-then-word32-crc16
+wrong c = left _ (refused WRONG) (decode-wrong _ (omega arith) (omega arith) (tested c.before.before ∙ ne_eqb _ _ c.before.if-word32-crc16.true))
 
-right : tie.Need-returns-4
+right : tie.Need-returns
 unfolding payload_of
 right c =
     let p = c.before.before.before.before.before.before.before.before.before.args.p.now in
@@ -34,7 +34,7 @@ right c =
     (record {
       least = omega arith;
       most = omega arith;
-      sound = tested c.before.before ∙ eq-eqb _ _ c.before.if3.false;
+      sound = tested c.before.before ∙ eq-eqb _ _ c.before.if-word32-crc16.false;
       value = ap (λ (k : ℕ). take k p) whole;
     }))
 

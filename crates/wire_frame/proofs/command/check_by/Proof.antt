@@ -14,40 +14,40 @@ use Rattle.wire_frame.proofs.Commands.{found, frame_check-start, frame_check-byt
 use Rattle.wire_frame.proofs.command.check_by.Statement.{statement}
 use Rattle.wire_frame.proofs.command.check_by.Tie as tie
 
-size : tie.Need-returns
+size : tie.Need-returns-then-s-ne6
 unfolding frame_check_by
-size c = simp (ne_eqb _ _ c.if1.true)
+size c = simp (ne_eqb _ _ c.if-s-ne6.true)
 
-start : tie.Need-returns-2
+start : tie.Need-returns-then-s-ne1
 start c =
     let at = c.before.before in
     let args = at.before.before.args in
     sym
-    (frame_check-start args.checks args.s.now at.if1.false (λ i. (c.before.shared-slice-known2.given i).fits)
-    ∙ simp (ne_eqb _ _ c.if2.true))
+    (frame_check-start args.checks args.s.now at.if-s-ne6.false (λ i. (c.before.shared_slice_known-2-1.given i).fits)
+    ∙ simp (ne_eqb _ _ c.if-s-ne1.true))
 
 -- behind a right start the last byte is judged by what `last_right` says
-by_bytes : (c : tie.After-last-right) → (let args = c.before.before.before.before.before.before.before.before.before.args in
+by_bytes : (c : tie.After-last_right) → (let args = c.before.before.before.before.before.before.before.before.before.args in
     let s = args.s.now in
-    frame_check_by args.checks s ≡ cond (eqb (get_or s 0 0 / 2 ^ 6) 1) (cond c.last-right.result (found s) Check) Start)
+    frame_check_by args.checks s ≡ cond (eqb (get_or s 0 0 / 2 ^ 6) 1) (cond c.last_right.result (found s) Check) Start)
 by_bytes c =
     let seal = c.before.seal in
     let at = c.before.before.before.before.before.before.before in
     let args = at.before.before.args in
     let s = args.s.now in
-    frame_check-bytes args.checks s at.if1.false (λ i. (c.before.before.before.shared-slice-known4.given i).fits) seal.result seal.type-inv seal.ensures
-    ∙ ap (λ (q : Bool). cond (eqb (get_or s 0 0 / 2 ^ 6) 1) (cond q (found s) Check) Start) (sym c.last-right.ensures)
+    frame_check-bytes args.checks s at.if-s-ne6.false (λ i. (c.before.before.before.shared_slice_known-4-1.given i).fits) seal.result seal.type_inv seal.ensures
+    ∙ ap (λ (q : Bool). cond (eqb (get_or s 0 0 / 2 ^ 6) 1) (cond q (found s) Check) Start) (sym c.last_right.ensures)
 
-check : tie.Need-returns-3
-check c = sym (by_bytes c.before ∙ simp (eq-eqb _ _ c.before.before.before.before.before.before.if2.false, not-true c.before.last-right.result c.if3.true))
+check : tie.Need-returns-then-not-last_right
+check c = sym (by_bytes c.before ∙ simp (eq-eqb _ _ c.before.before.before.before.before.before.if-s-ne1.false, not-true c.before.last_right.result c.if-not-last_right.true-raw))
 
-good : tie.Need-returns-4
+good : tie.Need-returns
 good c =
     let at = c.before.before.before.before in
     let head = at.before.before.before.before.before.before.before in
     let s = head.before.before.args.s.now in
-    ap (λ (w : ℕ). Good (bit_and (get_or s 0 0) 63) w) (word-content s c.word32.result head.if1.false c.word32.ensures)
-    ∙ sym (by_bytes at ∙ simp (eq-eqb _ _ at.before.before.before.before.before.if2.false, not-false at.last-right.result c.before.before.before.if3.false))
+    ap (λ (w : ℕ). Good (bit_and (get_or s 0 0) 63) w) (word-content s c.word32.result head.if-s-ne6.false c.word32.ensures)
+    ∙ sym (by_bytes at ∙ simp (eq-eqb _ _ at.before.before.before.before.before.if-s-ne1.false, not-false at.last_right.result c.before.before.before.if-not-last_right.false-raw))
 
 pub check_by_spec : {M : Type 1} → statement M
 check_by_spec =
