@@ -21,7 +21,7 @@ use Rattle.card.specs.History.{spi_of, SameWorld, hidden}
 use Rattle.card.proofs.Choices.{unless-either}
 use Rattle.card.proofs.Modes.{take-mode, block-mode, over-mode, receive-clears}
 use Rattle.card.proofs.Messages.{Stateless, receive_clean, take_bare, block-bare, led-stateless, over-bare}
-use Rattle.card.proofs.Hidden.{hidden_same, wire_same, reply_same}
+use Rattle.card.proofs.HiddenBits.{hidden_same, wire_same, reply_same}
 
 -- what `Alike` says of two results of a call, in a mode
 pub record Matched (spi : Bool) (c : Call) (x y : Result) : Type 0 where

@@ -39,7 +39,7 @@ use Rattle.card.specs.Step.{block_in, World, answered, Result, refuse, unless, w
 use Rattle.card.specs.History.{Sound, SameWorld, NotStored, Checks, Ignored, silence as silent-copy, error as answered-copy, Unheard}
 use Rattle.card.proofs.Choices.{cond_elim, cond_either, neither, unless_keeps, spared}
 use Rattle.card.proofs.Facts.{facts-sound}
-use Rattle.card.proofs.Hidden.{written}
+use Rattle.card.proofs.HiddenBits.{written}
 
 -- ---- a copy of a frame
 

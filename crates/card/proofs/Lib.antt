@@ -22,7 +22,7 @@ pub mod Sound
 pub mod Words
 pub mod Mask
 pub mod Messages
-pub mod Hidden
+pub mod HiddenBits
 pub mod Modes
 pub mod Alike
 pub mod Damaged

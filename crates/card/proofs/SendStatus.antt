@@ -35,7 +35,7 @@ use Rattle.card.specs.Step.{Call, power_up, command_frame, block_in, take_block,
 use Rattle.card.specs.SendStatus.{SendsStatus, status_bytes, StatusSent, SendStatusShows, Entry, call, send_status, SameButStatus, block_of, AlikeButStatus, AgreeButStatus, SendStatusInserted}
 use Rattle.card.proofs.Choices.{unless-either}
 use Rattle.card.proofs.Messages.{Stateless, take_bare, led-stateless}
-use Rattle.card.proofs.Hidden.{wire_same}
+use Rattle.card.proofs.HiddenBits.{wire_same}
 use Rattle.card.proofs.Unread.{rekept, statusless, SameTurn, receive_same, take_same, block_same, stop_same, over_same}
 
 -- ---- one call

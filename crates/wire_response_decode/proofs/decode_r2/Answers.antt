@@ -1,0 +1,39 @@
+-- `decode_r2` judges the size, the first byte and the last, and hands back what is between.
+use mathlib.Core.Path.{◌≡◌, sym, ap}
+use mathlib.Core.List.{List}
+use Prim.Native.Nat.{ℕ}
+use borrow.Author.Rules.{rules}
+use Rattle.codec.specs.Answer.{Outcome, why, part}
+use Rattle.wire_response.proofs.Registers.{register-size, register-first, register-last, register-done}
+use Rattle.wire_response_decode.proofs.decode_r2.Goals as goal
+
+-- the number and the part of an answer
+both : (o q : Outcome (List ℕ)) → o ≡ q → (why q ≡ why o) × (part q ≡ part o)
+both o q e = (sym (ap why e), sym (ap part e))
+
+pub returns-then-s-ne17 : goal.returns-then-s-ne17
+returns-then-s-ne17 c = both _ _ (register-size c.args.s.now c.if-s-ne17.true)
+
+pub returns-then-s-ne63 : goal.returns-then-s-ne63
+returns-then-s-ne63 c =
+    let at = c in
+    both _ _
+    (register-first at.args.s.now at.if-s-ne17.false (λ i. (at.type_inv.s i).fits) c.if-s-ne63.true)
+
+pub returns-then-s-seal : goal.returns-then-s-seal
+returns-then-s-seal c =
+    let seal = c.seal in
+    let at = c in
+    let s = at.args.s.now in
+    both _ _
+    (register-last s at.if-s-ne17.false (λ i. (at.type_inv.s i).fits) seal.result seal.type_inv seal.ensures at.if-s-ne63.false
+    c.if-s-seal.true)
+
+pub returns : goal.returns
+returns c =
+    let seal = c.seal in
+    let at = c in
+    let s = at.args.s.now in
+    both _ _
+    (register-done s at.if-s-ne17.false (λ i. (at.type_inv.s i).fits) seal.result seal.type_inv seal.ensures at.if-s-ne63.false
+    c.if-s-seal.false)
