@@ -8,20 +8,12 @@ use Rattle.card.specs.declared.Password.{Password}
 use Rattle.card.specs.Settings.{PASSWORD}
 use Rattle.card.specs.Lock.{content}
 use Rattle.card_password.proofs.Stored.{whole}
-use Rattle.card_password.proofs.kept.Statement.{statement}
-use Rattle.card_password.proofs.kept.Tie as tie
+use Rattle.card_password.proofs.kept.Goals as goal
 
 fits : (p : Password) → length p.bytes ≡ PASSWORD → length (content p) ≤ PASSWORD
 fits p h = omega (arith, length-take p.length p.bytes)
 
-pub kept_spec : {M : Type 1} → statement M
-kept_spec =
-    tie.close
-    (tie.spec
-    (λ c. search rules)
-    (λ c. search rules)
-    (λ c κs. search rules)
-    (λ c κs. search rules)
-    (λ c.
-    let p = c.before.before.before.before.before.args.password in
-    whole _ (content p) c.store.ensures c.before.front.ensures (fits p (search rules))))
+pub returns : goal.returns
+returns c =
+    let p = c.args.password in
+    whole _ (content p) c.store.ensures c.front.ensures (fits p (search rules))
