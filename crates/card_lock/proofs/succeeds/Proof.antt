@@ -9,14 +9,14 @@ use Rattle.card_lock.proofs.succeeds.Tie as tie
 abbrev start : tie.After-replaces → tie.Start
 start r = r.before.before.before.before.before.before
 
-abbrev read : tie.After-replaces → tie.After-data
+abbrev read : tie.After-replaces → tie.After-data-given
 read r = r.before.before
 
 same : (r : tie.After-replaces) → let args = (start r).args in
-    ((read r).before.complete.result && r.before.matches.result)
+    ((read r).before.complete-whole.result && r.before.matches.result)
     ≡ (complete args.payload.now && matches args.password (password_data args.payload.now))
 same r =
-    ap₂ ◌&&◌ (read r).before.complete.ensures (r.before.matches.ensures ∙ ap (matches (start r).args.password) (read r).«data».ensures)
+    ap₂ ◌&&◌ (read r).before.complete-whole.ensures (r.before.matches.ensures ∙ ap (matches (start r).args.password) (read r).data-given.ensures)
 
 pub succeeds_spec : {M : Type 1} → statement M
 unfolding succeeds
@@ -34,19 +34,19 @@ succeeds_spec =
     (λ c. search rules)
     (λ c. search rules)
     (λ c. search rules)
-    (λ c. rw c.enum_told.given.1)
+    (λ c. rw c.in-ForceErase.is)
     (λ c.
-    let r = c.before.before in
-    rw c.enum-told2.given.1
-    (ap₂ (λ (a b : Bool). not (start r).args.locked && (a && b)) (read r).before.before.is_set.ensures (same r)))
+    let r = c.before in
+    rw c.in-Lock.is
+    (ap₂ (λ (a b : Bool). not (start r).args.locked && (a && b)) (read r).before.before.is_set-set.ensures (same r)))
     (λ c.
-    let r = c.before.before in
-    rw c.enum-told3.given.1 (ap (λ (b : Bool). (start r).args.locked && b) (same r)))
+    let r = c.before in
+    rw c.in-Unlock.is (ap (λ (b : Bool). (start r).args.locked && b) (same r)))
     (λ c.
-    let r = c.before.before in
-    rw c.enum-told4.given.1 (ap₂ ◌&&◌ (read r).before.before.is_set.ensures (same r)))
+    let r = c.before in
+    rw c.in-ClearPassword.is (ap₂ ◌&&◌ (read r).before.before.is_set-set.ensures (same r)))
     (λ c.
-    let r = c.before.before in
-    rw c.enum-told5.given.1
-    (ap₂ ◌&&◌ (read r).before.complete.ensures (r.replaces.ensures ∙ ap (replaces (start r).args.password) (read r).«data».ensures)))
-    (λ c. rw c.enum-told6.given.1))
+    let r = c.before in
+    rw c.in-SetPassword.is
+    (ap₂ ◌&&◌ (read r).before.complete-whole.ensures (r.replaces.ensures ∙ ap (replaces (start r).args.password) (read r).data-given.ensures)))
+    (λ c. rw c.in-Invalid.is))

@@ -10,11 +10,11 @@ use Rattle.card_token.specs.Tokens.{packet_bytes}
 use Rattle.card_token.proofs.other_block.Statement.{statement}
 use Rattle.card_token.proofs.other_block.Tie as tie
 
-size : (c : tie.After-packet-size) → let args = c.before.before.before.args in
-    c.before.before.token-size.result + c.packet-size.result ≡ token_size args.m + packet_bytes (locking args.o) args.length
+size : (c : tie.After-packet_size) → let args = c.before.before.before.args in
+    c.before.before.token_size.result + c.packet_size.result ≡ token_size args.m + packet_bytes (locking args.o) args.length
 size c =
-    ap₂ ◌+◌ c.before.before.token-size.ensures.0
-    (c.packet-size.ensures.0 ∙ ap (λ (b : Bool). packet_bytes b c.before.before.before.args.length) c.before.locking.ensures)
+    ap₂ ◌+◌ c.before.before.token_size.ensures.0
+    (c.packet_size.ensures.0 ∙ ap (λ (b : Bool). packet_bytes b c.before.before.before.args.length) c.before.locking.ensures)
 
 pub other_block_spec : {M : Type 1} → statement M
 other_block_spec =
@@ -24,9 +24,9 @@ other_block_spec =
     (λ c κs. search rules)
     (λ c κs. search rules)
     (λ c. search rules)
-    (λ c. rw (eq-eqb _ _ (c.if1.true ∙ size c.before)))
+    (λ c. rw (eq-eqb _ _ (c.if-n-token_size.true ∙ size c.before)))
     (λ c κs. search rules)
     (λ c κs. search rules)
     (λ c.
     let test = c.before.before in
-    simp (ne_eqb _ _ (λ e. test.if1.false (e ∙ sym (size test.before))), c.writing-multiple.ensures, c.before.in_spi_lem.ensures)))
+    simp (ne_eqb _ _ (λ e. test.if-n-token_size.false (e ∙ sym (size test.before))), c.writing_multiple.ensures, c.before.in_spi.ensures)))

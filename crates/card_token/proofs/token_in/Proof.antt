@@ -14,14 +14,14 @@ pub token_in_spec : {M : Type 1} → statement M
 token_in_spec =
     tie.close
     (tie.spec
-    (λ c checks. let s = c.before.before in Tokens.nothing s.args.o (block s) checks c.if1.true)
+    (λ c checks. let s = c.before.before in Tokens.nothing s.args.o (block s) checks c.if-n-eq0.true)
     (λ c. search rules)
-    (λ c checks. let s = c.before.before.before.before.before in Tokens.stops s.args.o (block s) checks c.before.if2.true c.if3.true)
-    (λ c checks. let s = c.before.before.before.before.before in Tokens.lone s.args.o (block s) checks c.before.if2.true c.if3.false)
+    (λ c checks. let s = c.before.before.before.before.before in Tokens.stops s.args.o (block s) checks c.before.if-n-eq1.true c.if-token.true)
+    (λ c checks. let s = c.before.before.before.before.before in Tokens.lone s.args.o (block s) checks c.before.if-n-eq1.true c.if-token.false)
     (λ c κs. search rules)
     (λ c checks.
     let s = c.before.before.before.before.before.before in
-    Tokens.starts s.args.o (block s) checks c.before.before.if2.false (c.if4.true ∙ c.before.start-token.ensures))
+    Tokens.starts s.args.o (block s) checks c.before.before.if-n-eq1.false (c.if-token-start_token.true ∙ c.before.start_token.ensures))
     (λ c checks.
     let s = c.before.before.before.before.before.before in
-    Tokens.other s.args.o (block s) checks c.before.before.if2.false (λ e. c.if4.false (e ∙ sym c.before.start-token.ensures))))
+    Tokens.other s.args.o (block s) checks c.before.before.if-n-eq1.false (λ e. c.if-token-start_token.false (e ∙ sym c.before.start_token.ensures))))

@@ -1,0 +1,41 @@
+-- The loop leaves at the first protected block: at its head, the answer is that of the blocks left.
+use mathlib.Core.Path.{◌≡◌, refl, sym, ap, ◌∙◌}
+use Prim.Native.Nat.{◌+◌, ◌-◌, ◌≤◌}
+use native.Mathlib.Omega.{arith}
+use borrow.Author.Rules.{rules}
+use Rattle.card.specs.Protect.{any_guarded}
+use Rattle.card_protect.proofs.Blocks.{any_one, any_none, any_end}
+use Rattle.card_protect.proofs.any_guarded.Goals as goal
+
+pub loop-block-init : goal.loop-block-init
+loop-block-init c =
+    let a = c.args in
+    let e : a.first + a.count - a.first ≡ a.count = omega arith in
+    (refl, omega arith, ap (any_guarded a.all a.marks.now a.first) e)
+
+pub guarded_block-requires : goal.guarded_block-requires
+guarded_block-requires c = omega arith
+
+pub returns-then-guarded_block : goal.returns-then-guarded_block
+returns-then-guarded_block c =
+    let at = c.loop-block in
+    sym (any_one _ _ at.block _ c.loop-block-test.true (sym c.guarded_block.ensures ∙ c.if-guarded_block.true)) ∙ at.invariant.2
+
+pub overflow_add-block : goal.overflow_add-block
+overflow_add-block c = omega arith
+
+pub loop-block-smaller : goal.loop-block-smaller
+loop-block-smaller c = omega arith
+
+pub loop-block-preserved : goal.loop-block-preserved
+loop-block-preserved c =
+    let at = c.loop-block in (
+      at.invariant.0,
+      omega arith,
+      sym (any_none _ _ at.block _ c.loop-block-test.true (sym c.guarded_block.ensures ∙ c.if-guarded_block.false)) ∙ at.invariant.2,
+    )
+
+pub returns : goal.returns
+returns c =
+    let at = c.loop-block in
+    sym (any_end _ _ at.block _ c.loop-block-test.false) ∙ at.invariant.2

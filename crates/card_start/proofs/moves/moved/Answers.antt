@@ -1,0 +1,8 @@
+-- The state that the table gives.
+use mathlib.Core.Path.{ap, ◌∙◌}
+use Rattle.card.specs.Record.{with_state}
+use borrow.Author.Rules.{rules}
+use Rattle.card_start.proofs.moves.moved.Goals as goal
+
+pub returns : goal.returns
+returns c = c.with_state.ensures ∙ ap (with_state c.args.c) c.after.ensures

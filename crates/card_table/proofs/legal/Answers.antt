@@ -1,0 +1,9 @@
+-- A command is allowed where its row has a move.
+use borrow.Author.Rules.{rules}
+use Rattle.card_table.proofs.Rows.{legal_by}
+use Rattle.card_table.proofs.legal.Goals as goal
+
+pub returns : goal.returns
+returns c =
+    let a = c.args in
+    legal_by a.command a.bus _ _ _ c.in_spi-spi.ensures c.number_in.ensures.0 c.lead.ensures
