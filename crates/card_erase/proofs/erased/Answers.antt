@@ -8,19 +8,10 @@ use Rattle.card.specs.declared.done.Effect.TheVariants.{Sweep}
 use Rattle.card.specs.declared.done.Response.TheVariants.{R1}
 use Rattle.card.specs.Execute.{moved, drop_erase}
 use borrow.Author.Rules.{rules}
-use Rattle.card_erase.proofs.erased.Statement.{statement}
-use Rattle.card_erase.proofs.erased.Tie as tie
+use Rattle.card_erase.proofs.erased.Goals as goal
 
-pub erased_spec : {M : Type 1} → statement M
-erased_spec =
-    tie.close
-    (tie.spec
-    (λ c. search rules)
-    (λ c. search rules)
-    (λ c κs. search rules)
-    (λ c κs. search rules)
-    (λ c κs. search rules)
-    (λ c.
-    let a = c.before.before.before.args in
+pub returns : goal.returns
+returns c =
+    let a = c.args in
     ap {B = Done} (λ (x : Core). record { core = x; response = R1; effect = Sweep (a.from / 512) (a.to / 512 + 1 - a.from / 512) })
-    (c.moved.ensures ∙ ap (moved Erase) (c.before.drop-erase.ensures ∙ ap drop_erase c.before.before.skipped.ensures))))
+    (c.moved.ensures ∙ ap (moved Erase) (c.drop_erase-next.ensures ∙ ap drop_erase c.skipped.ensures))
