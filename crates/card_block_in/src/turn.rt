@@ -1,12 +1,13 @@
 // A payload into the open transfer of 24 or 25: the place, and the store.
 ghost use Rattle.std.specs.Prelude.{◌≡◌, [], true, false, cond, ◌+◌, ◌*◌, ◌<◌, length};
 ghost use Rattle.card.specs.declared.State.TheVariants.{Tran, Rcv, Prg};
-ghost use Rattle.card.specs.Settings.{BLOCK, MOST};
+ghost use Rattle.card.specs.Settings.{MOST};
+ghost use Rattle.card.specs.Settings as Sizes;
 ghost use Rattle.card.specs.State.{sink};
 ghost use Rattle.card.specs.Data.{write_into};
 ghost use Rattle.card_call.specs.Seen.{returned, turned};
 ghost use Rattle.card.specs.Checks.{outside};
-ghost use Rattle.card.specs.Status.{OUT_OF_RANGE, WP_VIOLATION};
+ghost use Rattle.card.specs.Status as Status;
 ghost use Rattle.card_block_in.specs.Stores.{Stores, parts};
 
 use card::answer::Answer;
@@ -60,7 +61,7 @@ pub(crate) fn open_write(o: Open) -> Transfer
 
 // The bit that holds a transfer at a place, or 0.
 fn hold_bit(top: u64, wp: bool, address: u32) -> u8
-    ensures { result ≡ cond (outside top address) OUT_OF_RANGE (cond wp WP_VIOLATION 0) }
+    ensures { result ≡ cond (outside top address) Status.OUT_OF_RANGE (cond wp Status.WP_VIOLATION 0) }
 {
     if top <= address as u64 {
         return OUT_OF_RANGE;
@@ -90,8 +91,8 @@ fn rejected(multiple: bool, address: u32) -> State
 
 // After a store 24 goes to prg, 25 on to the next block.
 fn accepted(multiple: bool, address: u32) -> State
-    requires { address < MOST * BLOCK }
-    ensures { result ≡ cond multiple (Rcv (sink true (address + BLOCK) false)) Prg }
+    requires { address < MOST * Sizes.BLOCK }
+    ensures { result ≡ cond multiple (Rcv (sink true (address + Sizes.BLOCK) false)) Prg }
 {
     if multiple {
         return State::Rcv(sink(true, address + BLOCK, false));
@@ -106,7 +107,7 @@ pub(crate) fn write_into(
     memory: &mut [u8],
     t: Transfer,
 ) -> Stepped
-    requires { Stores card.core t.address memory.old × (length payload.now ≡ BLOCK) }
+    requires { Stores card.core t.address memory.old × (length payload.now ≡ Sizes.BLOCK) }
     ensures { returned result memory.new []
         ≡ turned card memory.old [] (write_into t.multiple t.address t.held right card.core payload.now) }
 {

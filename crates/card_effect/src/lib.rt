@@ -2,7 +2,7 @@
 #![tactic(auto)]
 
 ghost use Rattle.std.specs.Prelude.{◌≡◌, cond, ◌+◌, ◌-◌, ◌*◌, ◌^◌, ◌<◌, ◌≤◌, leb, length, replicate};
-ghost use Rattle.card.specs.Settings.{BLOCK};
+ghost use Rattle.card.specs.Settings as Sizes;
 ghost use Rattle.card.specs.Effects.{stored, over, swept_block, swept, affected};
 ghost use Rattle.card_effect.specs.Apply.{reaches, zeroed};
 
@@ -23,7 +23,7 @@ fn zero(kept: usize, part: &mut [u8])
 
 // A protected block is kept to its last byte.
 fn kept_bytes(guarded: bool) -> usize
-    ensures { result ≡ cond guarded BLOCK 0 }
+    ensures { result ≡ cond guarded Sizes.BLOCK 0 }
 {
     if guarded {
         return BLOCK as usize;
@@ -32,7 +32,7 @@ fn kept_bytes(guarded: bool) -> usize
 }
 
 fn sweep_block(all: bool, marks: &[u8], memory: &mut [u8], block: u64)
-    requires { (block < 2 ^ 33) × ((block + 1) * BLOCK ≤ length memory.old) }
+    requires { (block < 2 ^ 33) × ((block + 1) * Sizes.BLOCK ≤ length memory.old) }
     ensures { memory.new ≡ swept_block all marks.now block memory.old }
 {
     let kept = kept_bytes(guarded_block(all, marks, block));
@@ -44,7 +44,7 @@ fn sweep_block(all: bool, marks: &[u8], memory: &mut [u8], block: u64)
 // Zeroes so many blocks from a number on, but for the protected ones.
 fn sweep(all: bool, marks: &[u8], memory: &mut [u8], first: u32, count: u32)
     ensures { memory.new
-        ≡ cond (leb ((first + count) * BLOCK) (length memory.old))
+        ≡ cond (leb ((first + count) * Sizes.BLOCK) (length memory.old))
         (swept all marks.now first count memory.old) memory.old }
 {
     let mut block: u64 = first as u64;

@@ -2,7 +2,7 @@
 #![tactic(auto)]
 
 ghost use Rattle.std.specs.Prelude.{◌≡◌, take};
-ghost use Rattle.card.specs.Settings.{PASSWORD};
+ghost use Rattle.card.specs.Settings as Sizes;
 ghost use Rattle.card.specs.Soundness.{equal};
 ghost use Rattle.card.specs.Lock.{password_of, no_password, content, is_set, begins, matches, replaces};
 
@@ -31,7 +31,7 @@ pub fn is_set(password: Password) -> bool
 
 // The bytes in front of zeros; of more than 16 the first.
 pub fn store(s: &[u8]) -> Password
-    ensures { result ≡ password_of (take PASSWORD s.now) }
+    ensures { result ≡ password_of (take Sizes.PASSWORD s.now) }
 {
     let first = front(s, PASSWORD);
     let mut bytes = [0u8; 16];

@@ -3,7 +3,7 @@
 
 ghost use Rattle.std.specs.Prelude.{◌≡◌, ◌||◌, ◌&&◌, [], ◌∷◌, ◌++◌, ℕ, ◌+◌, ◌-◌, ◌*◌, ◌/◌, ◌<◌, ◌≤◌, ltb};
 ghost use Rattle.crc.specs.Bits.{bit, bits};
-ghost use Rattle.card.specs.Settings.{BLOCK, GROUP};
+ghost use Rattle.card.specs.Settings as Sizes;
 ghost use Rattle.card.specs.Protect.{group_of, marked, put_bit, mark, guarded, any_guarded, mark_bits};
 
 use card::size::{BLOCK, GROUP};
@@ -81,7 +81,7 @@ pub fn guarded(all: bool, marks: &[u8], address: u32) -> bool
 
 // The same by the number of the block.
 pub fn guarded_block(all: bool, marks: &[u8], block: u64) -> bool
-    ensures { result ≡ guarded all marks.now (block * BLOCK) }
+    ensures { result ≡ guarded all marks.now (block * Sizes.BLOCK) }
 {
     if all {
         return true;
@@ -126,7 +126,7 @@ fn append(word: u32, value: bool) -> u32
 
 // The marks of 32 groups from that of an address on, the lowest bit first; groups past the end read 0.
 pub fn mark_word(blocks: u32, marks: &[u8], address: u32) -> u32
-    ensures { bits 32 result ≡ mark_bits ((blocks + (GROUP - 1)) / GROUP) marks.now (group_of address) 32 }
+    ensures { bits 32 result ≡ mark_bits ((blocks + (Sizes.GROUP - 1)) / Sizes.GROUP) marks.now (group_of address) 32 }
 {
     let count = groups(blocks);
     let group = group_of(address) as u64;

@@ -3,7 +3,8 @@
 
 ghost use Rattle.std.specs.Prelude.{◌≡◌, ◌+◌, ◌-◌, ◌*◌, ◌/◌};
 ghost use Rattle.card.specs.declared.Settings.{Settings};
-ghost use Rattle.card.specs.Settings.{BLOCK, GROUP, address_of, allowed, csd_of};
+ghost use Rattle.card.specs.Settings.{address_of, allowed, csd_of};
+ghost use Rattle.card.specs.Settings as Sizes;
 ghost use Rattle.card.specs.Data.{without_temporary};
 
 mod pair;
@@ -22,14 +23,14 @@ pub const POLLS: u8 = 15;
 
 // The first byte address behind so many blocks.
 pub fn capacity(blocks: u32) -> u64
-    ensures { result ≡ blocks * BLOCK }
+    ensures { result ≡ blocks * Sizes.BLOCK }
 {
     blocks as u64 * BLOCK as u64
 }
 
 // How many protection groups so many blocks have; the last may be short.
 pub fn groups(blocks: u32) -> u64
-    ensures { result ≡ (blocks + (GROUP - 1)) / GROUP }
+    ensures { result ≡ (blocks + (Sizes.GROUP - 1)) / Sizes.GROUP }
 {
     (blocks as u64 + (GROUP as u64 - 1)) / GROUP as u64
 }

@@ -2,7 +2,8 @@
 ghost use Rattle.std.specs.Prelude.{◌≡◌, true, ◌+◌, ◌*◌, ◌≤◌, ◌<◌};
 ghost use Rattle.crc.specs.Bits.{digit};
 ghost use Rattle.card.specs.Status.{at};
-ghost use Rattle.card.specs.Spi.{r1_byte, r2_byte, unread, COM_CRC_ERROR, ILLEGAL_COMMAND, IN_IDLE_STATE};
+ghost use Rattle.card.specs.Spi.{r1_byte, r2_byte, unread};
+ghost use Rattle.card.specs.Spi as Spi;
 
 use card::Kept;
 use card_status::no_bits;
@@ -56,13 +57,13 @@ pub fn r2_byte(kept: Kept, locked: bool) -> u8
 
 // R1 of a frame that is damaged, and of one that is not allowed: that error's bit and the idle bit alone.
 pub fn crc_error(idle: bool) -> u8
-    ensures { result ≡ at COM_CRC_ERROR true + at IN_IDLE_STATE idle }
+    ensures { result ≡ at Spi.COM_CRC_ERROR true + at Spi.IN_IDLE_STATE idle }
 {
     COM_CRC_ERROR + bit(idle, IN_IDLE_STATE)
 }
 
 pub fn not_allowed(idle: bool) -> u8
-    ensures { result ≡ at ILLEGAL_COMMAND true + at IN_IDLE_STATE idle }
+    ensures { result ≡ at Spi.ILLEGAL_COMMAND true + at Spi.IN_IDLE_STATE idle }
 {
     ILLEGAL_COMMAND + bit(idle, IN_IDLE_STATE)
 }

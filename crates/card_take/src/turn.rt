@@ -2,7 +2,7 @@
 ghost use Rattle.std.specs.Prelude.{◌≡◌, true, false, cond};
 ghost use Rattle.card.specs.declared.Source.TheVariants.{Blocks};
 ghost use Rattle.card.specs.declared.State.TheVariants.{Data, Tran};
-ghost use Rattle.card.specs.Status.{OUT_OF_RANGE, ADDRESS_ERROR};
+ghost use Rattle.card.specs.Status as Status;
 ghost use Rattle.card.specs.Checks.{outside, crossing};
 ghost use Rattle.card.specs.Data.{take_source};
 ghost use Rattle.card.specs.Step.{led};
@@ -19,7 +19,7 @@ use card_status::{ADDRESS_ERROR, OUT_OF_RANGE};
 
 // The bit that holds a read: past the end, or across a boundary; 0 where none does.
 fn hold_bit(top: u64, length: u16, address: u32) -> u8
-    ensures { result ≡ cond (outside top address) OUT_OF_RANGE (cond (crossing length address) ADDRESS_ERROR 0) }
+    ensures { result ≡ cond (outside top address) Status.OUT_OF_RANGE (cond (crossing length address) Status.ADDRESS_ERROR 0) }
 {
     if top <= address as u64 {
         return OUT_OF_RANGE;

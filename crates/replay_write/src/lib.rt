@@ -4,7 +4,8 @@
 ghost use Rattle.std.specs.Prelude.{◌≡◌, ◌+◌, ◌≤◌, min, length, replicate};
 ghost use Rattle.codec.specs.Answer.{encoded, encoding};
 ghost use Rattle.card.specs.Step as Step;
-ghost use Rattle.replay_write.specs.Write.{write_line, ROOM, size, place};
+ghost use Rattle.replay_write.specs.Write.{write_line, size, place};
+ghost use Rattle.replay_write.specs.Write as Write;
 
 mod hex;
 mod text;
