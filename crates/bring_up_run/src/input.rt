@@ -1,7 +1,8 @@
 // The lines of the card, one at a time.
-ghost use Rattle.std.specs.Prelude.{◌≤◌, length};
+ghost use Rattle.std.specs.Prelude.{◌≤◌, length, IfOk};
 
 use replay_read::{fill, keep};
+use std::io::Read;
 
 // What was read and not used yet: the bytes of a chunk from `at` to `end`.
 #[derive(Clone, Copy)]
@@ -18,30 +19,40 @@ pub(crate) struct Arrived {
 }
 
 // Reads only where nothing is left, since the card may wait for the next command. A line of `count` bytes has arrived so far.
-fn filled(fd: i32, chunk: &mut [u8], unread: Unread, count: usize) -> Unread
+fn filled<R: Read>(
+    input: &mut R,
+    chunk: &mut [u8],
+    unread: Unread,
+    count: usize,
+) -> std::io::Result<Unread>
     requires { unread.end ≤ length chunk.old }
-    ensures { result.end ≤ length chunk.new }
+    ensures { IfOk result (λ left. left.end ≤ length chunk.new) }
 {
     if unread.at < unread.end {
-        return unread;
+        return Ok(unread);
     }
-    Unread {
+    Ok(Unread {
         at: 0,
-        end: fill(fd, chunk, count),
-    }
+        end: fill(input, chunk, count)?,
+    })
 }
 
 // The next line; an empty one at the end of the input. Bytes past the buffer's length are dropped.
-pub(crate) fn line(fd: i32, chunk: &mut [u8], unread: Unread, line: &mut [u8]) -> Arrived
+pub(crate) fn line<R: Read>(
+    input: &mut R,
+    chunk: &mut [u8],
+    unread: Unread,
+    line: &mut [u8],
+) -> std::io::Result<Arrived>
     requires { unread.end ≤ length chunk.old }
-    ensures { result.unread.end ≤ length chunk.new }
+    ensures { IfOk result (λ arrived. arrived.unread.end ≤ length chunk.new) }
 {
     let mut rest = unread;
     let mut count: usize = 0;
     let mut turns = u64::MAX;
     while turns > 0 {
         turns -= 1;
-        rest = filled(fd, chunk, rest, count);
+        rest = filled(input, chunk, rest, count)?;
         let at = rest.at;
         if at >= rest.end {
             break;
@@ -53,8 +64,8 @@ pub(crate) fn line(fd: i32, chunk: &mut [u8], unread: Unread, line: &mut [u8]) -
         }
         count = keep(line, count, byte);
     }
-    Arrived {
+    Ok(Arrived {
         unread: rest,
         count,
-    }
+    })
 }

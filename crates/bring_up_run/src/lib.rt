@@ -1,7 +1,7 @@
 // The program of the host: a line for each command, the card's answer to it, and at last how it ended.
 #![tactic(auto)]
 
-ghost use Rattle.std.specs.Prelude.{◌≤◌, length};
+ghost use Rattle.std.specs.Prelude.{◌≤◌, length, IfOk};
 
 mod input;
 
@@ -10,6 +10,7 @@ use host::{Answer, Beginning, Host};
 use input::Unread;
 use replay_read::front;
 use replay_write::Kind;
+use std::io::Read;
 
 // A frame on its line, written at once, since the card waits for it.
 fn send(out: &[u8], n: usize) {
@@ -25,23 +26,28 @@ struct Heard {
     unread: Unread,
 }
 
-fn hear(fd: i32, chunk: &mut [u8], unread: Unread, bytes: &mut [u8]) -> Heard
+fn hear<R: Read>(
+    input: &mut R,
+    chunk: &mut [u8],
+    unread: Unread,
+    bytes: &mut [u8],
+) -> std::io::Result<Heard>
     requires { unread.end ≤ length chunk.old }
-    ensures { result.unread.end ≤ length chunk.new }
+    ensures { IfOk result (λ heard. heard.unread.end ≤ length chunk.new) }
 {
     // one byte more than the longest line
     let mut line: [u8; 1033] = [0; 1033];
-    let arrived = input::line(fd, chunk, unread, &mut line);
+    let arrived = input::line(input, chunk, unread, &mut line)?;
     let answer = read(front(&line, arrived.count), bytes);
     let left = arrived.unread;
-    Heard {
+    Ok(Heard {
         answer,
         unread: left,
-    }
+    })
 }
 
 // A proved loop has to end: it counts its steps down from a number that no run uses up.
-fn bring_up(fd: i32, begun: Host) {
+fn bring_up<R: Read>(input: &mut R, begun: Host) -> std::io::Result<()> {
     let mut host = begun;
     let mut unread = Unread { at: 0, end: 0 };
     let mut chunk = io::buffer();
@@ -57,30 +63,32 @@ fn bring_up(fd: i32, begun: Host) {
         let Answer::Sent(n) = answer else {
             let found = host.found;
             bring_up_end::ended(answer, found, host.polls);
-            return;
+            return Ok(());
         };
         send(&out, n);
-        let heard = hear(fd, &mut chunk, unread, &mut bytes);
+        let heard = hear(input, &mut chunk, unread, &mut bytes)?;
         unread = heard.unread;
         let read = heard.answer;
         let AnswerRead::Bytes(count) = read else {
             let phase = host.phase;
             bring_up_end::no_answer(phase);
-            return;
+            return Ok(());
         };
         size = count;
     }
+    Ok(())
 }
 
 // The answers come from a file, one a command; the limit is a text.
-pub fn run(fd: i32, limit: &[u8]) {
+pub fn run<R: Read>(input: &mut R, limit: &[u8]) -> std::io::Result<()> {
     let started = host_step::start(bring_up_line::limit::read(limit));
     let beginning = started.answer;
     let begun = started.host;
     match beginning {
-        Beginning::Begun => bring_up(fd, begun),
+        Beginning::Begun => bring_up(input, begun),
         Beginning::Refused(_) => {
             io::write_all(1, b"bring_up: the limit is a number from 1 to 1000\n");
+            Ok(())
         }
     }
 }

@@ -1,21 +1,36 @@
 // Feeds stored answers of a card to the host, one file after the other: a line of `list` has the limit and the file of each.
 #![tactic(auto)]
 
-ghost use Rattle.std.specs.Prelude.{◌≤◌, length};
+ghost use Rattle.std.specs.Prelude.{◌≤◌, length, IfOk};
+ghost use Rattle.std.specs.Io.{ReadsAtMost};
 
-fn bring_up(name: &[u8], limit: &[u8]) {
-    let fd = os::open_read(name);
-    if fd < 0 {
-        os::fail(name);
-        return;
+use std::fs::File;
+use std::io::{Error, ErrorKind, Read};
+use std::rt::Files;
+use std::str;
+
+// Opens a file by its name, which has to be text.
+fn open<R: Files>(rt: &R, name: &[u8]) -> std::io::Result<R::File> {
+    match str::from_utf8(name) {
+        Ok(path) => File::open(rt, path),
+        Err(_) => Err(Error::from(ErrorKind::InvalidFilename)),
     }
+}
+
+fn bring_up(rt: &(impl Files + Eprint), name: &[u8], limit: &[u8]) -> std::io::Result<()> {
+    let mut file = match open(rt, name) {
+        Ok(file) => file,
+        Err(error) => {
+            io::write_all(2, name);
+            return eprintln!(rt; ": {error}");
+        }
+    };
     io::write_all(1, b"# limit ");
     io::write_all(1, limit);
     io::write_all(1, b", ");
     io::write_all(1, name);
     io::write_all(1, b"\n");
-    bring_up_run::run(fd, limit);
-    libc::close(fd);
+    bring_up_run::run(&mut file, limit)
 }
 
 // Where a byte is, from a place on; the length where it is not.
@@ -34,25 +49,25 @@ fn find(text: &[u8], from: usize, byte: u8) -> usize
 }
 
 // The history of a line; gives the place behind it, or the end where no whole line is left.
-fn line(list: &[u8], at: usize) -> usize
+fn line(rt: &(impl Files + Eprint), list: &[u8], at: usize) -> std::io::Result<usize>
     requires { at ≤ length list.now }
-    ensures { result ≤ length list.now }
+    ensures { IfOk result (λ next. next ≤ length list.now) }
 {
     let tab = find(list, at, 9);
     let end = find(list, tab, 10);
     if end >= list.len() {
-        return end;
+        return Ok(end);
     }
     let name = tab + 1;
     if name > end {
-        return list.len();
+        return Ok(list.len());
     }
-    bring_up(&list[name..end], &list[at..tab]);
-    end + 1
+    bring_up(rt, &list[name..end], &list[at..tab])?;
+    Ok(end + 1)
 }
 
 // A proved loop has to end: it counts its lines down.
-fn all(list: &[u8]) {
+fn all(rt: &(impl Files + Eprint), list: &[u8]) -> std::io::Result<()> {
     let mut at: usize = 0;
     let mut lines: usize = 1000;
     while lines > 0 {
@@ -60,14 +75,28 @@ fn all(list: &[u8]) {
         if at >= list.len() {
             break;
         }
-        at = line(list, at);
+        at = line(rt, list, at)?;
     }
+    Ok(())
 }
 
-fn main() {
+// Reads until the text is full or the file ends: how many bytes.
+fn read_full<R: Read>(input: &mut R, text: &mut [u8]) -> std::io::Result<usize>
+    ensures { ReadsAtMost result text.new }
+{
+    let mut done: usize = 0;
+    while done < text.len() {
+        let n = input.read(&mut text[done..])?;
+        if n == 0 {
+            break;
+        }
+        done += n;
+    }
+    Ok(done)
+}
+
+fn main(rt: HostRuntime) -> std::io::Result<()> {
     let mut text = io::buffer();
-    let fd = os::open_read(b"list");
-    let n = io::read_full(fd, &mut text);
-    libc::close(fd);
-    all(&text[..n]);
+    let n = read_full(&mut File::open(&rt, "list")?, &mut text)?;
+    all(&rt, &text[..n])
 }

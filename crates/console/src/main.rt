@@ -1,6 +1,6 @@
 // The console: lines on standard input, one answer line each, for any card.
 #![tactic(auto)]
 
-fn main() {
-    console_run::run(0);
+fn main(rt: HostRuntime) -> std::io::Result<()> {
+    console_run::run(&mut rt.stdin())
 }

@@ -1,28 +1,29 @@
 // Plays the stored transcripts of the console one after the other, each from its beginning, as the console does.
 #![tactic(auto)]
 
-fn console(name: &[u8]) {
-    let fd = os::open_read(name);
-    if fd < 0 {
-        os::fail(name);
-        return;
-    }
+use std::fs::File;
+use std::rt::Files;
+
+fn console(rt: &(impl Files + Eprint), name: &str) -> std::io::Result<()> {
+    let mut file = match File::open(rt, name) {
+        Ok(file) => file,
+        Err(error) => return eprintln!(rt; "{name}: {error}"),
+    };
     io::write_all(1, b"# ");
-    io::write_all(1, name);
+    io::write_all(1, name.as_bytes());
     io::write_all(1, b"\n");
-    console_run::run(fd);
-    libc::close(fd);
+    console_run::run(&mut file)
 }
 
-fn main() {
-    console(b"power.in");
-    console(b"protected.in");
-    console(b"lock.in");
-    console(b"locked.in");
-    console(b"spi.in");
-    console(b"spi-blocks.in");
-    console(b"spi-memory.in");
-    console(b"memory.in");
-    console(b"sizes.in");
-    console(b"lines.in");
+fn main(rt: HostRuntime) -> std::io::Result<()> {
+    console(&rt, "power.in")?;
+    console(&rt, "protected.in")?;
+    console(&rt, "lock.in")?;
+    console(&rt, "locked.in")?;
+    console(&rt, "spi.in")?;
+    console(&rt, "spi-blocks.in")?;
+    console(&rt, "spi-memory.in")?;
+    console(&rt, "memory.in")?;
+    console(&rt, "sizes.in")?;
+    console(&rt, "lines.in")
 }

@@ -8,9 +8,8 @@ use native.Mathlib.Numerals.{add-one}
 use native.Mathlib.Omega.{arith}
 use borrow.Author.Tests.{eq-eqb, ne_eqb}
 use lib.Dec.{eqb}
-use lib.ListN.{length, get_or, take, drop, set, length-take, length-drop, drop_of_length-le}
+use lib.ListN.{length, get_or, take, drop, length-take, length-drop, drop_of_length-le}
 use lib.Seq.{drop-cons, take_all}
-use Rattle.io.specs.Counts.{IsPrefixLen}
 use Rattle.card.specs.Soundness.{equal}
 
 -- lists of two lengths differ
@@ -64,8 +63,3 @@ front-equal line word r e = rw (sub-zero (length word)) at e
 -- what is behind the front
 pub all-behind : (n : ℕ) (s : List ℕ) → take (length s - n) (drop n s) ≡ drop n s
 all-behind n s = take_all (length s - n) (drop n s) (omega (arith, length-drop n s))
-
--- a byte that was put first is one of the list's
-pub counts-one : (s : List ℕ) (byte : ℕ) → (length s ≡ 0 → ⊥) → IsPrefixLen 1 (set s 0 byte)
-counts-one [] byte n = absurd (n refl)
-counts-one (x ∷ s) byte n = (omega arith, refl)

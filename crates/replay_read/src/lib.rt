@@ -1,13 +1,16 @@
 // The replay program's lines of input: how they are collected, and what is read.
 #![tactic(auto)]
 
-ghost use Rattle.std.specs.Prelude.{◌≡◌, take, drop};
-ghost use Rattle.io.specs.Counts.{IsPrefixLen};
+ghost use Rattle.std.specs.Prelude.{◌≡◌, ◌<◌, ◌⊎◌, [], ◌∷◌, take, drop, length, IfOk, OnErr};
+ghost use Rattle.std.specs.Io.{ReadsAtMost};
+ghost use Rattle.std.specs.Io.KnownBytes.{Keeps, Consumes, IsAtEnd};
 ghost use Rattle.replay_read.specs.Read.{read_line, held};
 ghost use Rattle.replay_read.specs.Keep.{keep_byte, collected};
 
 pub mod fields;
 pub mod hex;
+
+use std::io::Read;
 
 // The first word of a line.
 #[derive(Clone, Copy)]
@@ -76,22 +79,25 @@ pub fn keep(line: &mut [u8], count: usize, byte: u8) -> usize
     count
 }
 
-// Fills a chunk from a file: how many bytes, 0 at the end. A last line of `count` bytes that has no newline gets one there.
-// What is read is not part of a contract.
-pub fn fill(fd: i32, chunk: &mut [u8], count: usize) -> usize
-    ensures { IsPrefixLen result chunk.new }
+// Fills a chunk by one read of what is there: how many bytes, 0 at the end. A last line of `count` bytes that has no newline
+// gets one there. A read that fails takes nothing. Which bytes a file or standard input gives is not part of a contract.
+pub fn fill<R: Read>(input: &mut R, chunk: &mut [u8], count: usize) -> std::io::Result<usize>
+    ensures ok { ReadsAtMost result chunk.new }
+    ensures bytes { IfOk result (λ n. Consumes (R.remaining input.old) (R.remaining input.new) (take n chunk.new)
+        ⊎ (0 < count) × (take n chunk.new ≡ 10 ∷ []) × IsAtEnd (R.remaining input.new)) }
+    ensures end { IfOk result (λ n. n ≡ 0 → 0 < length chunk.new → IsAtEnd (R.remaining input.new)) }
+    ensures err { OnErr result (Keeps (R.remaining input.old) (R.remaining input.new)) }
 {
-    let got = libc::read(fd, chunk);
-    let n = io::count(got, chunk);
+    let n = input.read(chunk)?;
     if n > 0 {
-        return n;
+        return Ok(n);
     }
     if count == 0 {
-        return 0;
+        return Ok(0);
     }
     if chunk.len() == 0 {
-        return 0;
+        return Ok(0);
     }
     chunk[0] = 10;
-    1
+    Ok(1)
 }

@@ -6,9 +6,10 @@ use replay_answer::bench::{bench, blank};
 use replay_read::{fill, front};
 use replay_session::hear_all;
 use replay_write::mebibyte;
+use std::io::Read;
 
 // A proved loop has to end: it counts its reads down from a number that no run uses up. The answers of a read are written at once.
-pub fn run(fd: i32) {
+pub fn run<R: Read>(input: &mut R) -> std::io::Result<()> {
     let mut memory = blank();
     let mut line: [u8; 1033] = [0; 1033];
     let mut text = mebibyte();
@@ -20,7 +21,7 @@ pub fn run(fd: i32) {
     };
     let mut turns = u64::MAX;
     while turns > 0 {
-        let n = fill(fd, &mut chunk, s.count);
+        let n = fill(input, &mut chunk, s.count)?;
         if n == 0 {
             break;
         }
@@ -29,4 +30,5 @@ pub fn run(fd: i32) {
         s.wrote = 0;
         turns -= 1;
     }
+    Ok(())
 }

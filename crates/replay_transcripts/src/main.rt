@@ -1,30 +1,31 @@
 // Replays the stored transcripts one after the other, each on a card of its own, as the replay program does.
 #![tactic(auto)]
 
-fn replay(name: &[u8]) {
-    let fd = os::open_read(name);
-    if fd < 0 {
-        os::fail(name);
-        return;
-    }
+use std::fs::File;
+use std::rt::Files;
+
+fn replay(rt: &(impl Files + Eprint), name: &str) -> std::io::Result<()> {
+    let mut file = match File::open(rt, name) {
+        Ok(file) => file,
+        Err(error) => return eprintln!(rt; "{name}: {error}"),
+    };
     io::write_all(1, b"# ");
-    io::write_all(1, name);
+    io::write_all(1, name.as_bytes());
     io::write_all(1, b"\n");
-    replay_run::run(fd);
-    libc::close(fd);
+    replay_run::run(&mut file)
 }
 
-fn main() {
-    replay(b"nine.in");
-    replay(b"bring-up.in");
-    replay(b"all-states.in");
-    replay(b"status-bits.in");
-    replay(b"holds.in");
-    replay(b"refusals.in");
-    replay(b"long-lines.in");
-    replay(b"erase.in");
-    replay(b"multiple.in");
-    replay(b"lock.in");
-    replay(b"damaged.in");
-    replay(b"damaged-without.in");
+fn main(rt: HostRuntime) -> std::io::Result<()> {
+    replay(&rt, "nine.in")?;
+    replay(&rt, "bring-up.in")?;
+    replay(&rt, "all-states.in")?;
+    replay(&rt, "status-bits.in")?;
+    replay(&rt, "holds.in")?;
+    replay(&rt, "refusals.in")?;
+    replay(&rt, "long-lines.in")?;
+    replay(&rt, "erase.in")?;
+    replay(&rt, "multiple.in")?;
+    replay(&rt, "lock.in")?;
+    replay(&rt, "damaged.in")?;
+    replay(&rt, "damaged-without.in")
 }
