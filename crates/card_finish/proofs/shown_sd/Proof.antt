@@ -26,9 +26,9 @@ shown_sd_spec =
     (λ c.
     let index = c.before.before.before in
     let a = index.before.args in
-    c.finish-spi.ensures
+    c.finish_spi.ensures
     ∙ ap (finish_spi a.c.kept a.command) c.before.chosen.ensures
-    ∙ chooses-spi _ _ _ _ (sym (test index) ∙ c.before.before.if1.true))
+    ∙ chooses-spi _ _ _ _ (sym (test index) ∙ c.before.before.if-low-index.true))
     (λ c κs. search rules)
     (λ c κs. search rules)
     (λ c.
@@ -36,4 +36,4 @@ shown_sd_spec =
     let a = left.before.before.args in
     c.finish.ensures
     ∙ ap (λ (n : ℕ). finish a.command n a.done) c.before.number.ensures.0
-    ∙ stays-sd _ _ _ _ (sym (test left.before) ∙ left.if1.false)))
+    ∙ stays-sd _ _ _ _ (sym (test left.before) ∙ left.if-low-index.false)))
