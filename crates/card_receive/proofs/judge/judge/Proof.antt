@@ -13,7 +13,7 @@ use Rattle.card_receive.proofs.judge.judge.Statement.{statement}
 use Rattle.card_receive.proofs.judge.judge.Tie as tie
 
 -- both tests of the command that was found
-allowed : (l : tie.After-legal) → let found = l.before.before in let c = found.before.before.args.c in let k = found.command-of.result in
+allowed : (l : tie.After-legal) → let found = l.before.before in let c = found.before.before.args.c in let k = found.command_of-command.result in
     (l.before.accepts.result && l.legal.result) ≡ (accepts k c.locked && legal k c.bus)
 allowed l = ap₂ ◌&&◌ l.before.accepts.ensures l.legal.ensures
 
@@ -30,10 +30,10 @@ judge_spec =
     let found = legal.before.before in
     let a = found.before.before.args in
     rw (
-      ← judge_by a.c a.index a.argument _ (own a.c.bus a.argument) found.command-of.ensures refl,
-      sym (allowed legal) ∙ not-true _ c.before.if1.true,
+      ← judge_by a.c a.index a.argument _ (own a.c.bus a.argument) found.command_of-command.ensures refl,
+      sym (allowed legal) ∙ not-true _ c.before.if-not-accepts-legal.true-raw,
     )
-    (ap (judged NotAllowed found.command-of.result) c.ran.ensures))
+    (ap (judged NotAllowed found.command_of-command.result) c.ran.ensures))
     (λ c κs. search rules)
     (λ c κs. search rules)
     (λ c κs. search rules)
@@ -44,11 +44,11 @@ judge_spec =
     let found = legal.before.before in
     let a = found.before.before.args in
     rw (
-      ← judge_by a.c a.index a.argument _ _ found.command-of.ensures mine.own.ensures,
-      sym (allowed legal) ∙ not-false _ mine.before.if1.false,
-      sym misses.misses.ensures ∙ c.before.if2.true,
+      ← judge_by a.c a.index a.argument _ _ found.command_of-command.ensures mine.own.ensures,
+      sym (allowed legal) ∙ not-false _ mine.before.if-not-accepts-legal.false-raw,
+      sym misses.misses.ensures ∙ c.before.if-misses.true,
     )
-    (ap (judged OtherCard found.command-of.result) c.ran2.ensures))
+    (ap (judged OtherCard found.command_of-command.result) c.ran-then-misses.ensures))
     (λ c κs. search rules)
     (λ c κs. search rules)
     (λ c.
@@ -58,9 +58,9 @@ judge_spec =
     let found = legal.before.before in
     let a = found.before.before.args in
     rw (
-      ← judge_by a.c a.index a.argument _ _ found.command-of.ensures mine.own.ensures,
-      sym (allowed legal) ∙ not-false _ mine.before.if1.false,
-      sym misses.misses.ensures ∙ c.before.before.if2.false,
+      ← judge_by a.c a.index a.argument _ _ found.command_of-command.ensures mine.own.ensures,
+      sym (allowed legal) ∙ not-false _ mine.before.if-not-accepts-legal.false-raw,
+      sym misses.misses.ensures ∙ c.before.before.if-misses.false,
     )
-    (ap (judged Ran found.command-of.result)
-    (c.run.ensures ∙ ap (λ (x : Core). run found.command-of.result x a.argument) c.before.settled.ensures))))
+    (ap (judged Ran found.command_of-command.result)
+    (c.run.ensures ∙ ap (λ (x : Core). run found.command_of-command.result x a.argument) c.before.settled.ensures))))
