@@ -1,0 +1,6 @@
+-- The payload as it is.
+use borrow.Author.Rules.{rules}
+use Rattle.card_send.proofs.send_status.Goals as goal
+
+pub returns : goal.returns
+returns = (λ c memory. c.send.ensures memory)
