@@ -23,57 +23,57 @@ use Rattle.card_take.proofs.Takes.{takes, unread}
 use Rattle.card_take.proofs.take.Statement.{statement}
 use Rattle.card_take.proofs.take.Tie as tie
 
-abbrev opened : tie.After-refusal → tie.After-open
-opened n = n.before.before.before.before.before
+abbrev opened : tie.After-refusal-n → tie.After-open-open
+opened n = n.before.before.before.before.before.before.before
 
-abbrev start : tie.After-refusal → tie.Start
+abbrev start : tie.After-refusal-n → tie.Start
 start n = (opened n).before.before.before.before
 
-rows : (n : tie.After-refusal) → let args = (start n).args in
-    n.before.before.rows.result
+rows : (n : tie.After-refusal-n) → let args = (start n).args in
+    n.rows-r.result
     ≡ rows_of args.card.core args.card.password.length (length args.memory.now) false (ltb (length args.out.now) (block_room args.card.core)) (not (reading (open_of args.card.core.bus.state)))
 rows n =
     let args = (start n).args in
-    n.before.before.rows.ensures
+    n.rows-r.ensures
     ∙ ap₂ (λ (k : ℕ) (b : Bool). rows_of args.card.core args.card.password.length (length args.memory.now) false (ltb (length args.out.now) (k + (BLOCK + CHECK))) (not b))
-    n.before.before.before.before.token-size.ensures.0
-    (n.before.before.before.reading.ensures ∙ ap reading (opened n).«open».ensures)
+    n.token_size.ensures.0
+    (n.reading.ensures ∙ ap reading (opened n).open-open.ensures)
 
-no : tie.Need-returns
+no : tie.Need-returns-then-n-ne0
 unfolding step taken
 no c =
     let n = c.before.before in
-    refuses _ _ _ _ n.refusal.ensures (rows n) _ _ _ _ c.refused.result c.before.if1.true c.refused.ensures
+    refuses _ _ _ _ n.refusal-n.ensures (rows n) _ _ _ _ c.refused.result c.before.if-n-ne0.true c.refused.ensures
 
 -- by what is open
-ran : (e : tie.Else1) (r : Stepped) (made : List ℕ) (q : Open) → let args = (start e.before).args in
-    (opened e.before).«open».result ≡ q
+ran : (e : tie.Else-n-ne0) (r : Stepped) (made : List ℕ) (q : Open) → let args = (start e.before).args in
+    (opened e.before).open-open.result ≡ q
     → returned r args.memory.now made
     ≡ turned args.card args.memory.now args.out.now (led args.card.core.bus.mode (take_from q args.card.core args.memory.now))
     → returned r args.memory.now made ≡ stepped args.card args.memory.now (take_block args.out.now)
 unfolding step taken
 ran e r made q k h =
     let args = (start e.before).args in
-    runs _ _ _ _ e.before.refusal.ensures (rows e.before) _ _ _ _ _ e.if1.false
-    (by_open _ _ _ (λ x. led args.card.core.bus.mode (take_from x args.card.core args.memory.now)) (opened e.before).«open».ensures k h)
+    runs _ _ _ _ e.before.refusal-n.ensures (rows e.before) _ _ _ _ _ e.if-n-ne0.false
+    (by_open _ _ _ (λ x. led args.card.core.bus.mode (take_from x args.card.core args.memory.now)) (opened e.before).open-open.ensures k h)
 
-sent : tie.Need-returns-2
+sent : tie.Need-returns-in-Read
 unfolding take_from
 sent c =
-    ran c.before.before.before.before.before.before.before c.before.before.take_source.result _ _
-    c.before.before.before.before.before.open2.given.1
-    c.before.before.take_source.ensures
+    ran c.before.before.before.before.before c.take_source.result _ _
+    c.in-Read.is
+    c.take_source.ensures
 
 -- where no read is open
-other : tie.Need-returns-3
+other : tie.Need-returns-in_default
 unfolding led_message
 other c =
     let e = c.before in
     let args = (start e.before).args in
     let card = args.card in
-    ran e (after card card.core Silence) args.out.now (opened e.before).«open».result refl
+    ran e (after card card.core Silence) args.out.now (opened e.before).open-open.result refl
     (silent (after card card.core Silence) card card.core card.core refl refl args.memory.now args.out.now refl
-    ∙ ap (λ (t : Turn). turned card args.memory.now args.out.now (led card.core.bus.mode t)) (sym (unread (opened e.before).«open».result c.match.keys2 card.core args.memory.now)))
+    ∙ ap (λ (t : Turn). turned card args.memory.now args.out.now (led card.core.bus.mode t)) (sym (unread (opened e.before).open-open.result c.in_default.in_default-own.keys2 card.core args.memory.now)))
 
 pub take_spec : {M : Type 1} → statement M
 take_spec =
@@ -86,14 +86,13 @@ take_spec =
     (λ c. search rules)
     (λ c κs. search rules)
     (λ c κs. search rules)
-    (λ c. search rules)
     (λ c κs. search rules)
     (λ c κs. search rules)
     no
     (λ c. search rules)
     (λ c κs.
-    let e = c.before.before.before.before in
-    takes _ _ _ _ _ (none-applies _ _ _ _ e.before.refusal.ensures (rows e.before) e.if1.false))
+    let e = c.before.before in
+    takes _ _ _ _ _ (none-applies _ _ _ _ e.before.refusal-n.ensures (rows e.before) e.if-n-ne0.false))
     (λ c. search rules)
     sent
     other)

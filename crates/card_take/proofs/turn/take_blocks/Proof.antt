@@ -20,49 +20,49 @@ use Rattle.card_take.proofs.Takes.{inside, bit_of, holds, in_range, in_block}
 use Rattle.card_take.proofs.turn.take_blocks.Statement.{statement}
 use Rattle.card_take.proofs.turn.take_blocks.Tie as tie
 
-quietly : tie.Need-returns
+quietly : tie.Need-returns-then-held
 unfolding take_source led_message
 quietly c =
     let card = c.before.before.before.args.card in
-    rw c.if1.true (silent (after card card.core Silence) card card.core card.core refl refl _ _ refl)
+    rw c.if-held.true (silent (after card card.core Silence) card card.core card.core refl refl _ _ refl)
 
-abbrev start : tie.After-hold-bit → tie.Start
+abbrev start : tie.After-hold_bit-bit → tie.Start
 start c = c.before.before.before.before.before
 
 -- the two tests, by the record's own numbers
-abbrev past : tie.After-hold-bit → Bool
+abbrev past : tie.After-hold_bit-bit → Bool
 past c = let args = (start c).args in outside (args.card.core.settings.blocks * BLOCK) args.address
 
-abbrev across : tie.After-hold-bit → Bool
+abbrev across : tie.After-hold_bit-bit → Bool
 across c = let args = (start c).args in crossing args.card.core.length args.address
 
-bit : (c : tie.After-hold-bit) → c.hold-bit.result ≡ bit_of (past c) (across c)
-bit c = c.hold-bit.ensures ∙ ap (λ (top : ℕ). bit_of (outside top (start c).args.address) (across c)) c.before.capacity.ensures
+bit : (c : tie.After-hold_bit-bit) → c.hold_bit-bit.result ≡ bit_of (past c) (across c)
+bit c = c.hold_bit-bit.ensures ∙ ap (λ (top : ℕ). bit_of (outside top (start c).args.address) (across c)) c.before.capacity.ensures
 
-held : tie.Need-returns-2
+held : tie.Need-returns-then-bit-ne0
 unfolding take_source led_message
 held c =
     let b = c.before.before in
     let args = (start b).args in
     let core = args.card.core in
-    rw b.before.before.if1.false
+    rw b.before.before.if-held.false
     (c.hold.ensures args.memory.now args.out.now
     ∙ ap (λ (t : Turn). turned args.card args.memory.now args.out.now (led core.bus.mode t))
-    (holds (past b) (across b) b.hold-bit.result (hold_read core args.multiple args.address) (read_block core args.memory.now args.multiple args.address) (bit b) c.before.if2.true))
+    (holds (past b) (across b) b.hold_bit-bit.result (hold_read core args.multiple args.address) (read_block core args.memory.now args.multiple args.address) (bit b) c.before.if-bit-ne0.true))
 
-low : (c : tie.Else2) → past c.before ≡ false
-low c = in_range (past c.before) (across c.before) _ (bit c.before) c.if2.false
+low : (c : tie.Else-bit-ne0) → past c.before ≡ false
+low c = in_range (past c.before) (across c.before) _ (bit c.before) c.if-bit-ne0.false
 
-whole : (c : tie.Else2) → across c.before ≡ false
-whole c = in_block (past c.before) (across c.before) _ (bit c.before) c.if2.false
+whole : (c : tie.Else-bit-ne0) → across c.before ≡ false
+whole c = in_block (past c.before) (across c.before) _ (bit c.before) c.if-bit-ne0.false
 
 -- the block that is asked for lies in memory
-within : (c : tie.Else2) → let args = (start c.before).args in args.address + args.card.core.length ≤ args.card.core.settings.blocks * BLOCK
+within : (c : tie.Else-bit-ne0) → let args = (start c.before).args in args.address + args.card.core.length ≤ args.card.core.settings.blocks * BLOCK
 within c =
     let args = (start c.before).args in
     inside args.address args.card.core.length args.card.core.settings.blocks (leb-false _ _ (low c)) (ltb-false _ _ (whole c))
 
-sent : tie.Need-returns-3
+sent : tie.Need-returns
 unfolding take_source
 sent c =
     let behind = c.before.before.before.before.before in
@@ -75,9 +75,9 @@ sent c =
     let send = c.before.before.send in
     let k : a + n - a ≡ n = omega arith in
     let l : length (take n (drop a s)) ≡ n =
-    ap (λ (j : ℕ). length (take j (drop a s))) (sym k) ∙ mid_len a (a + n) s (omega (arith, within test, s0.pre.size.whole)) ∙ k in
-    rw (test.before.before.before.if1.false, low test, whole test)
-    (block-sent send.result args.card _ s _ _ s0.pre.room (take n (drop a s)) (omega (arith, l, s0.pre.low)) (omega (arith, l, s0.pre.high)) _ _
+    ap (λ (j : ℕ). length (take j (drop a s))) (sym k) ∙ mid_len a (a + n) s (omega (arith, within test, s0.requires.size.whole)) ∙ k in
+    rw (test.before.before.before.if-held.false, low test, whole test)
+    (block-sent send.result args.card _ s _ _ s0.requires.room (take n (drop a s)) (omega (arith, l, s0.requires.low)) (omega (arith, l, s0.requires.high)) _ _
     behind.behind.ensures
     (ap (λ (j : ℕ). take j (drop a s)) k)
     (send.ensures s))
