@@ -16,54 +16,48 @@ use Rattle.card_refuse.proofs.Refusals.{refuses, runs}
 use Rattle.card_power.proofs.busy_over.Statement.{statement}
 use Rattle.card_power.proofs.busy_over.Tie as tie
 
-abbrev start : tie.After-refusal → tie.Start
-start n = n.before.before.before.before.before.before.before
-
-abbrev opened : tie.After-refusal → tie.After-open
-opened n = n.before.before.before.before
-
-rows : (n : tie.After-refusal) → let args = (start n).args in
-    n.before.before.rows.result
+rows : (n : tie.After-refusal-n) → let args = n.args in
+    n.rows-r.result
     ≡ rows_of args.card.core args.card.password.length (length args.memory.now) false false (not (busy (open_of args.card.core.bus.state)))
 rows n =
-    let args = (start n).args in
-    n.before.before.rows.ensures
+    let args = n.args in
+    n.rows-r.ensures
     ∙ ap (λ (b : Bool). rows_of args.card.core args.card.password.length (length args.memory.now) false false (not b))
-    (n.before.before.before.busy.ensures ∙ ap busy (opened n).«open».ensures)
+    (n.busy.ensures ∙ ap busy n.open-open.ensures)
 
-no : tie.Need-returns
+no : tie.Need-returns-then-n-ne0
 unfolding step overed
 no c =
     let n = c.before.before in
-    refuses _ _ _ _ n.refusal.ensures (rows n) _ _ _ _ _ c.before.if1.true c.refused.ensures
+    refuses _ _ _ _ n.refusal-n.ensures (rows n) _ _ _ _ _ c.if-n-ne0.true c.refused.ensures
 
 -- by what is open
-ran : (e : tie.Else1) (r : Stepped) (q : Open) → let s = start e.before in
-    (opened e.before).«open».result ≡ q
+ran : (e : tie.Else-n-ne0) (r : Stepped) (q : Open) → let s = e in
+    e.open-open.result ≡ q
     → returned r s.args.memory.now [] ≡ turned s.args.card s.args.memory.now [] (over_from q s.args.card.core)
     → returned r s.args.memory.now [] ≡ stepped s.args.card s.args.memory.now busy_over
 unfolding step overed
 ran e r q k h =
-    runs _ _ _ _ e.before.refusal.ensures (rows e.before) _ _ _ _ _ e.if1.false
-    (by_open _ _ _ (λ x. over_from x (start e.before).args.card.core) (opened e.before).«open».ensures k h)
+    runs _ _ _ _ e.refusal-n.ensures (rows e.before) _ _ _ _ _ e.if-n-ne0.false
+    (by_open _ _ _ (λ x. over_from x e.args.card.core) e.open-open.ensures k h)
 
-over : tie.Need-returns-2
+over : tie.Need-returns-in-Busy
 unfolding over_from
 over c =
-    ran c.before.before.before.before.before c.answered.result _ c.before.before.before.open2.given.1
-    (ended c.answered.result _ _ _ c.before.with-state.ensures refl _ _ c.answered.ensures)
+    ran c.before.before.before.before c.answered.result _ c.in-Busy.is
+    (ended c.answered.result _ _ _ c.with_state.ensures refl _ _ c.answered.ensures)
 
-nothing : tie.Need-returns-3
+nothing : tie.Need-returns-in-Nothing
 unfolding over_from
-nothing c = ran c.before.before.before c.answered2.result _ c.before.enum_told.given.1 (silent c.answered2.result _ _ _ refl refl _ _ c.answered2.ensures)
+nothing c = ran c.before.before.before c.answered-in-Nothing.result _ c.in-Nothing.is (silent c.answered-in-Nothing.result _ _ _ refl refl _ _ c.answered-in-Nothing.ensures)
 
-read : tie.Need-returns-4
+read : tie.Need-returns-in-Read
 unfolding over_from
-read c = ran c.before.before.before c.answered3.result _ c.before.enum-told2.given.1 (silent c.answered3.result _ _ _ refl refl _ _ c.answered3.ensures)
+read c = ran c.before.before.before c.answered-in-Read.result _ c.in-Read.is (silent c.answered-in-Read.result _ _ _ refl refl _ _ c.answered-in-Read.ensures)
 
-write : tie.Need-returns-5
+write : tie.Need-returns-in-Write
 unfolding over_from
-write c = ran c.before.before.before c.answered4.result _ c.before.enum-told3.given.1 (silent c.answered4.result _ _ _ refl refl _ _ c.answered4.ensures)
+write c = ran c.before.before.before c.answered-in-Write.result _ c.in-Write.is (silent c.answered-in-Write.result _ _ _ refl refl _ _ c.answered-in-Write.ensures)
 
 pub busy_over_spec : {M : Type 1} → statement M
 busy_over_spec =
@@ -72,7 +66,6 @@ busy_over_spec =
     (λ c κs. search rules)
     (λ c κs. search rules)
     (λ c κs. search rules)
-    (λ c. search rules)
     (λ c κs. search rules)
     (λ c κs. search rules)
     no

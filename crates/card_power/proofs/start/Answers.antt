@@ -7,18 +7,11 @@ use Rattle.card.specs.declared.Card.{Card}
 use Rattle.card.specs.Lock.{is_set}
 use Rattle.card.specs.Step.{fresh, line, start}
 use borrow.Author.Rules.{rules}
-use Rattle.card_power.proofs.start.Statement.{statement}
-use Rattle.card_power.proofs.start.Tie as tie
+use Rattle.card_power.proofs.start.Goals as goal
 
-pub start_spec : {M : Type 1} → statement M
+pub returns : goal.returns
 unfolding start
-start_spec =
-    tie.close
-    (tie.spec
-    (λ c κs. search rules)
-    (λ c κs. search rules)
-    (λ c κs. search rules)
-    (λ c.
-    let kept = c.before.before.kept.ensures in
+returns c =
+    let kept = c.kept-stored.ensures in
     ap₂ {C = Card} (λ (x : Core) (p : Password). record { core = x; password = p; line = line false })
-    (c.fresh.ensures ∙ ap (fresh c.before.before.before.args.settings) (c.before.is_set.ensures ∙ ap is_set kept)) kept))
+    (c.fresh.ensures ∙ ap (fresh c.args.settings) (c.is_set.ensures ∙ ap is_set kept)) kept
