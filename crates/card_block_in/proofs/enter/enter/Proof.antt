@@ -14,7 +14,7 @@ use Rattle.card_block_in.proofs.Gives.{written_as, locked_as}
 use Rattle.card_block_in.proofs.enter.enter.Statement.{statement}
 use Rattle.card_block_in.proofs.enter.enter.Tie as tie
 
-abbrev start : tie.After-packet-right → tie.Start
+abbrev start : tie.After-packet_right-right → tie.Start
 start r = r.before.before.before.before
 
 -- the packet, and whether its check is right, or not judged
@@ -24,38 +24,38 @@ packet s = drop s.args.at s.args.block.now
 abbrev judged : tie.Start → Bool
 judged s = not s.args.checks || packet_right (packet s)
 
-right : (r : tie.After-packet-right) → r.packet-right.result ≡ judged (start r)
+right : (r : tie.After-packet_right-right) → r.packet_right-right.result ≡ judged (start r)
 right r =
     let s = start r in
-    r.packet-right.ensures ∙ ap (λ (p : List ℕ). not s.args.checks || packet_right p) (Blocks.rest s.args.block.now s.args.at s.pre.decodes)
+    r.packet_right-right.ensures ∙ ap (λ (p : List ℕ). not s.args.checks || packet_right p) (Blocks.rest s.args.block.now s.args.at s.requires.decodes)
 
-lock : tie.Need-returns
+lock : tie.Need-returns-then-locking
 lock c =
     let test = c.before.before.before.before in
     let r = test.before.before.before in
     let s = start r in
     let args = s.args in
-    locked_as args.card args.o args.memory.now (right r) (Blocks.lies args.block.now args.at s.pre.decodes)
-    (sym test.before.locking.ensures ∙ test.if1.true) c.before.before.lock-into.ensures
+    locked_as args.card args.o args.memory.now (right r) (Blocks.lies args.block.now args.at s.requires.decodes)
+    (sym test.locking.ensures ∙ test.if-locking.true) c.lock_into.ensures
 
-written : tie.Need-returns-2
+written : tie.Need-returns
 written c =
     let w = c.before.before.before in
     let test = w.before.before in
     let r = test.before.before.before in
     let s = start r in
     let args = s.args in
-    written_as args.card args.o args.memory.now (right r) (Blocks.lies args.block.now args.at s.pre.decodes)
-    w.open-write.result w.open-write.ensures (sym test.before.locking.ensures ∙ test.if1.false) c.before.before.write-into.ensures
+    written_as args.card args.o args.memory.now (right r) (Blocks.lies args.block.now args.at s.requires.decodes)
+    w.open_write.result w.open_write.ensures (sym test.locking.ensures ∙ test.if-locking.false) c.write_into.ensures
 
-stores : tie.Need-write-into-requires
+stores : tie.Need-write_into-requires
 stores w κs =
     let test = w.before.before in
     let s = start test.before.before.before in
     let args = s.args in (
-      subst (λ (x : Transfer). Stores args.card.core x.address args.memory.now) (sym w.open-write.ensures) s.pre.stores,
-      ap length (Blocks.lies args.block.now args.at s.pre.decodes)
-          ∙ Blocks.length-payload (packet s) (s.pre.whole (sym test.before.locking.ensures ∙ test.if1.false)),
+      subst (λ (x : Transfer). Stores args.card.core x.address args.memory.now) (sym w.open_write.ensures) s.requires.stores,
+      ap length (Blocks.lies args.block.now args.at s.requires.decodes)
+          ∙ Blocks.length-payload (packet s) (s.requires.whole (sym test.locking.ensures ∙ test.if-locking.false)),
     )
 
 room : (s : tie.Start) → s.args.at + (1 + CHECK) ≤ length s.args.block.now

@@ -25,10 +25,10 @@ use Rattle.card_block_in.proofs.turn.write_into.Tie as tie
 
 -- ---- what the tests told
 
-abbrev judged : tie.After-hold-bit → tie.Else2
+abbrev judged : tie.After-hold_bit-bit → tie.Else-not-right
 judged h = h.before.before.before.before.before.before
 
-abbrev start : tie.After-hold-bit → tie.Start
+abbrev start : tie.After-hold_bit-bit → tie.Start
 start h = (judged h).before.before.before.before
 
 abbrev past : Core → ℕ → Bool
@@ -37,62 +37,62 @@ past c address = outside (capacity c.settings) address
 abbrev kept : Core → ℕ → Bool
 kept c address = guarded (whole c.settings) c.marks address
 
-bit : (h : tie.After-hold-bit) → let args = (start h).args in
-    h.hold-bit.result ≡ Blocks.bit_of (past args.card.core args.t.address) (kept args.card.core args.t.address)
+bit : (h : tie.After-hold_bit-bit) → let args = (start h).args in
+    h.hold_bit-bit.result ≡ Blocks.bit_of (past args.card.core args.t.address) (kept args.card.core args.t.address)
 bit h =
     let args = (start h).args in
-    h.hold-bit.ensures
-    ∙ ap₂ (λ (top : ℕ) (wp : Bool). Blocks.bit_of (outside top args.t.address) wp) h.before.capacity.ensures
-    (h.before.before.guarded.ensures
-    ∙ ap (λ (b : Bool). guarded b args.card.core.marks args.t.address) h.before.before.before.before.before.whole.ensures)
+    h.hold_bit-bit.ensures
+    ∙ ap₂ (λ (top : ℕ) (wp : Bool). Blocks.bit_of (outside top args.t.address) wp) h.capacity.ensures
+    (h.guarded-wp.ensures
+    ∙ ap (λ (b : Bool). guarded b args.card.core.marks args.t.address) h.whole-all.ensures)
 
-inside : (e : tie.Else3) → let args = (start e.before).args in past args.card.core args.t.address ≡ false
+inside : (e : tie.Else-bit-ne0) → let args = (start e.before).args in past args.card.core args.t.address ≡ false
 inside e =
     let args = (start e.before).args in
-    Blocks.inside (past args.card.core args.t.address) (kept args.card.core args.t.address) (sym (bit e.before) ∙ e.if3.false)
+    Blocks.inside (past args.card.core args.t.address) (kept args.card.core args.t.address) (sym (bit e.before) ∙ e.if-bit-ne0.false)
 
-below : (e : tie.Else3) → let args = (start e.before).args in args.t.address < args.card.core.settings.blocks * BLOCK
+below : (e : tie.Else-bit-ne0) → let args = (start e.before).args in args.t.address < args.card.core.settings.blocks * BLOCK
 below e = leb-false _ _ (inside e)
 
 -- ---- the answers
 
-held : tie.Need-returns
+held : tie.Need-returns-then-t
 unfolding write_into
 held c =
-    let card = c.before.before.before.args.card in
-    rw c.if1.true (Turns.silent (Turns.after card card.core Silence) card card.core card.core refl refl _ _ refl)
+    let card = c.args.card in
+    rw c.if-t.true (Turns.silent (Turns.after card card.core Silence) card card.core card.core refl refl _ _ refl)
 
-rejected : tie.Need-returns-2
+rejected : tie.Need-returns-then-not-right
 unfolding write_into
 rejected c =
     let test = c.before.before.before in
-    let args = test.before.before.before.before.args in
-    rw (test.before.if1.false, test.if2.true)
+    let args = test.args in
+    rw (test.if-t.false, test.if-not-right.true-raw)
     (Turns.rejected c.answered.result _ _ _
-    (c.before.with-state.ensures ∙ ap (with_state args.card.core) c.before.before.rejected.ensures)
+    (c.with_state-next.ensures ∙ ap (with_state args.card.core) c.rejected.ensures)
     refl _ _ c.answered.ensures
     ∙ ap (λ (x : Core). turned args.card args.memory.now [] (said x (token REJECTED))) (sym (Blocks.choice args.card.core args.t.multiple _ _)))
 
-kept_out : tie.Need-returns-3
+kept_out : tie.Need-returns-then-bit-ne0
 unfolding write_into
 kept_out c =
     let raised = c.before.before.before in
-    let test = raised.before in
+    let test = raised.before.before in
     let h = test.before in
     let args = (start h).args in
     let core = args.card.core in
     let held : ℕ → Turn = λ n. quiet (hold_write (raise core n) args.t.multiple args.t.address) Keep in
-    rw ((judged h).before.if1.false, (judged h).if2.false)
-    (Turns.silent c.answered2.result _ _ _
-    (c.before.with-state2.ensures ∙ ap₂ with_state raised.raise.ensures c.before.before.hold.ensures)
-    refl _ _ c.answered2.ensures
+    rw ((judged h).if-t.false, (judged h).if-not-right.false-raw)
+    (Turns.silent c.answered-then-bit-ne0.result _ _ _
+    (c.with_state-next-then-bit-ne0.ensures ∙ ap₂ with_state raised.raise.ensures c.hold.ensures)
+    refl _ _ c.answered-then-bit-ne0.ensures
     ∙ ap (turned args.card args.memory.now [])
-    (ap held (bit h) ∙ Blocks.held_by held _ (past core args.t.address) (kept core args.t.address) (λ z. test.if3.true (bit h ∙ z))))
+    (ap held (bit h) ∙ Blocks.held_by held _ (past core args.t.address) (kept core args.t.address) (λ z. test.if-bit-ne0.true (bit h ∙ z))))
 
-stored : tie.Need-returns-4
+stored : tie.Need-returns
 unfolding write_into
 stored c =
-    let apply = c.before.before.before.before.before.before.before.before in
+    let apply = c.before.before.before.before.before.before.before.before.before in
     let test = apply.before.before.before in
     let h = test.before in
     let begin = start h in
@@ -100,27 +100,13 @@ stored c =
     let core = args.card.core in
     let a = args.t.address in
     let reach : a + length args.payload.now ≤ length args.memory.now =
-    omega (arith, begin.pre.1, below test, begin.pre.0.aligned, begin.pre.0.size.whole) in
-    rw ((judged h).before.if1.false, (judged h).if2.false, inside test, Blocks.unkept (past core a) (kept core a) (sym (bit h) ∙ test.if3.false))
-    (Turns.accepted c.answered3.result _ _ _
-    (c.before.with-state3.ensures ∙ ap₂ with_state c.before.before.before.with-written.ensures c.before.before.accepted.ensures)
+    omega (arith, begin.requires.1, below test, begin.requires.0.aligned, begin.requires.0.size.whole) in
+    rw ((judged h).if-t.false, (judged h).if-not-right.false-raw, inside test, Blocks.unkept (past core a) (kept core a) (sym (bit h) ∙ test.if-bit-ne0.false))
+    (Turns.accepted c.answered-2.result _ _ _
+    (c.with_state-next-2.ensures ∙ ap₂ with_state c.with_written-counted.ensures c.accepted.ensures)
     refl _ _ _ _ _
-    (Blocks.stored_in h.before.before.before.before.before.whole.result a args.payload.now args.memory.now core.marks _ _ reach apply.apply.ensures)
-    c.answered3.ensures)
-
--- the array of the marks has its length
-
-lent : tie.Need-slice-aggregate-guarded
-lent c =
-    let core = c.before.before.before.before.before.before.before.well-formed.0.1.1.0 in
-    let marks = core.1.1.1.1.1.1.1.1.1.1.0 in
-    search rules
-
-lent_on : tie.Need-slice-aggregate-apply
-lent_on c =
-    let core = (start c.before.before.before).well-formed.0.1.1.0 in
-    let marks = core.1.1.1.1.1.1.1.1.1.1.0 in
-    search rules
+    (Blocks.stored_in h.whole-all.result a args.payload.now args.memory.now core.marks _ _ reach apply.apply.ensures)
+    c.answered-2.ensures)
 
 pub write_into_spec : {M : Type 1} → statement M
 write_into_spec =
@@ -132,7 +118,7 @@ write_into_spec =
     (λ c κs. search rules)
     rejected
     (λ c κs. search rules)
-    lent
+    (λ c. search rules)
     (λ c κs. search rules)
     (λ c κs. search rules)
     (λ c κs. search rules)
@@ -141,11 +127,11 @@ write_into_spec =
     (λ c κs. search rules)
     (λ c κs. search rules)
     kept_out
-    lent_on
+    (λ c. search rules)
     (λ c κs. search rules)
-    (λ c. let n = (start c.before.before.before.before.before.before.before.before).requires.0.count in search rules)
+    (λ c. let n = c.requires.0.count in search rules)
     (λ c κs. search rules)
-    (λ c κs. omega (arith, below c.before.before.before.before.before.before.before.before, (start c.before.before.before.before.before.before.before.before.before).requires.0.size.blocks))
+    (λ c κs. omega (arith, below c.before.before.before.before.before.before.before.before.before, c.requires.0.size.blocks))
     (λ c κs. search rules)
     (λ c κs. search rules)
     (λ c. search rules)
