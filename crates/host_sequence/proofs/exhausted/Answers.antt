@@ -7,8 +7,7 @@ use borrow.Author.Rules.{rules}
 use borrow.Author.Tests.{lt-ltb, le-ltb, leb-true, leb-false}
 use lib.Dec.{leb, ltb}
 use Rattle.host.specs.Host.{of_poll}
-use Rattle.host_sequence.proofs.exhausted.Statement.{statement}
-use Rattle.host_sequence.proofs.exhausted.Tie as tie
+use Rattle.host_sequence.proofs.exhausted.Goals as goal
 
 one_more : (limit polls : ℕ) → ltb limit (polls + 1) ≡ leb limit polls
 one_more limit polls = go (leb limit polls) refl
@@ -17,8 +16,5 @@ one_more limit polls = go (leb limit polls) refl
     go true e = let h = leb-true limit polls e in lt-ltb limit (polls + 1) (omega (arith, h))
     go false e = let h = leb-false limit polls e in le-ltb limit (polls + 1) (omega (arith, h))
 
-used_up : tie.Need-returns
-used_up c = ap (λ (b : Bool). of_poll c.args.index && b) (one_more c.args.limit c.args.polls)
-
-pub exhausted_spec : {M : Type 1} → statement M
-exhausted_spec = tie.close (tie.spec (λ c. search rules) used_up)
+pub returns : goal.returns
+returns c = ap (λ (b : Bool). of_poll c.args.index && b) (one_more c.args.limit c.args.polls)
