@@ -1,4 +1,7 @@
 -- `r2` copies the register's sixteen bytes, or leaves them.
+-- ---- by the number
+-- ---- all of a buffer of its size
+-- ---- what comes of it
 use mathlib.Core.Path.{◌≡◌, refl, sym, ap, ap₂, subst, ◌∙◌}
 use mathlib.Core.Bool.{Bool, true, false, cond, false≢true}
 use mathlib.Core.List.{List, [], ◌++◌, append-nil}
@@ -21,10 +24,7 @@ use Rattle.host_reply.specs.declared.R2Read.{R2Read}
 use Rattle.host_reply.specs.declared.R2Read.TheVariants.{Register}
 use Rattle.host_reply.specs.declared.R2Read.TheVariants as R2
 use Rattle.host_reply.specs.Read.{received}
-use Rattle.host_reply.proofs.r2.Statement.{statement}
-use Rattle.host_reply.proofs.r2.Tie as tie
-
--- ---- by the number
+use Rattle.host_reply.proofs.r2.Goals as goal
 
 abbrev is_register : R2Read → Bool
 is_register Register = true
@@ -55,50 +55,34 @@ read : (s : List ℕ) → why (decode_r2 s) ≡ 0 → decode_r2 s ≡ done (part
 unfolding decode_r2
 read s = number-done (eqb (length s) 17) (right r2 s) (drop 1 s)
 
--- ---- all of a buffer of its size
-
 copied : (out s : List ℕ) → length out ≡ 16 → length s ≡ 16 → take (length out) s ++ drop (length s) out ≡ s
 copied out s m n =
     let short : length out ≤ length s = let h : length out ≡ length s = m ∙ sym n in omega (arith, h) in
     ap₂ (λ (x y : List ℕ). x ++ y) (ap (λ (k : ℕ). take k s) (m ∙ sym n) ∙ take-length s) (drop_of_length-le out short)
     ∙ append-nil s
 
--- ---- what comes of it
-
 abbrev Comes : Outcome (List ℕ) → List ℕ → Judgement → List ℕ → Type 0
 Comes o before j after = (j ≡ accepted o (λ s. Expected)) × (after ≡ received o before)
 
-refusal : tie.Need-returns
-refusal c =
-    let at = c.before.before in
-    let call = at.before.decode-r2 in
-    let a = at.before.before.before.before.args in
+pub returns-in_default : goal.returns-in_default
+returns-in_default c =
+    let at = c in
+    let call = at.decode_r2-s in
+    let a = at.args in
     let o = decode_r2 a.reply.now in
-    let other = read-other call.new.1.0 at.r2-read.result at.r2-read.ensures c.enum-told2.given.1 in
-    let e : refused call.new.1.0 ≡ o = ap refused call.ensures.0 ∙ number-refused o (λ z. other (call.ensures.0 ∙ z)) in
-    let same : Comes (refused call.new.1.0) a.register.now (Unexpected (Refused call.new.1.0)) a.register.now = (refl, refl) in
-    subst (λ (x : Outcome (List ℕ)). Comes x a.register.now (Unexpected (Refused call.new.1.0)) a.register.now) e same
+    let other = read-other call.new.number at.r2_read-read.result at.r2_read-read.ensures c.in_default.is in
+    let e : refused call.new.number ≡ o = ap refused call.ensures.0 ∙ number-refused o (λ z. other (call.ensures.0 ∙ z)) in
+    let same : Comes (refused call.new.number) a.register.now (Unexpected (Refused call.new.number)) a.register.now = (refl, refl) in
+    subst (λ (x : Outcome (List ℕ)). Comes x a.register.now (Unexpected (Refused call.new.number)) a.register.now) e same
 
-register : tie.Need-returns-2
-register c =
-    let at = c.before.before.before.before in
-    let call = at.before.decode-r2 in
-    let a = at.before.before.before.before.args in
-    let zero = read-zero call.new.1.0 at.r2-read.result at.r2-read.ensures c.before.before.enum_told.given.1 in
+pub returns : goal.returns
+returns c =
+    let at = c in
+    let call = at.decode_r2-s in
+    let a = at.args in
+    let zero = read-zero call.new.number at.r2_read-read.result at.r2_read-read.ensures c.in-Register.is in
     let e : decode_r2 a.reply.now ≡ done (part (decode_r2 a.reply.now)) = read a.reply.now (sym call.ensures.0 ∙ zero) in
     let size = ap length call.ensures.1 ∙ r2_trip.decoded-size a.reply.now _ e in
     let room : length a.register.now ≡ 16 = search rules in
     let bytes = c.copy.ensures ∙ copied a.register.now call.result.now room size ∙ call.ensures.1 in
-    subst (λ (o : Outcome (List ℕ)). Comes o a.register.now Expected c.copy.new.0) (sym e) (refl, bytes)
-
-pub r2_spec : {M : Type 1} → statement M
-r2_spec =
-    tie.close
-    (tie.spec
-    (λ c κs. search rules)
-    (λ c κs. search rules)
-    (λ c. search rules)
-    (λ c. search rules)
-    refusal
-    (λ c κs. search rules)
-    register)
+    subst (λ (o : Outcome (List ℕ)). Comes o a.register.now Expected c.copy.new.out) (sym e) (refl, bytes)

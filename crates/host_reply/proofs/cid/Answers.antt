@@ -8,19 +8,15 @@ use Rattle.wire_response.specs.Response.{decode_r2}
 use Rattle.host.specs.declared.Found.{Found}
 use Rattle.host.specs.Reply.{judge, learn, told, with_cid}
 use Rattle.host_reply.specs.Read.{received}
-use Rattle.host_reply.proofs.cid.Statement.{statement}
-use Rattle.host_reply.proofs.cid.Tie as tie
+use Rattle.host_reply.proofs.cid.Goals as goal
 
 kept : (o : Outcome (List ℕ)) (f : Found) → with_cid f (received o f.cid) ≡ told o f (with_cid f)
 kept (done register) f = refl
 kept (refused k) f = refl
 
-heard : tie.Need-returns
+pub returns : goal.returns
 unfolding judge learn
-heard c =
-    let a = c.before.before.before.before.before.args in
-    let found = ap (with_cid a.found) c.r2.ensures.1 ∙ kept (decode_r2 a.reply.now) a.found in
-    λ i. record { judgement = c.r2.ensures.0 i; found = found i }
-
-pub cid_spec : {M : Type 1} → statement M
-cid_spec = tie.close (tie.spec (λ c κs. search rules) heard)
+returns c =
+    let a = c.args in
+    let found = ap (with_cid a.found) c.r2-judgement.ensures.1 ∙ kept (decode_r2 a.reply.now) a.found in
+    λ i. record { judgement = c.r2-judgement.ensures.0 i; found = found i }
