@@ -21,54 +21,51 @@ module _ (h : Host) (reply out : List ℕ) (sound : unsound h.limit h.polls ≡ 
   unfolding step
   runs p r e q = rw (sound, le-ltb (length out) ROOM room) (q ∙ sym (ap (λ (x : Phase). turns x h reply out) e))
 
-out_of_range : tie.Need-returns
+out_of_range : tie.Need-returns-then-unsound
 unfolding step
 out_of_range c =
-    let a = c.before.before.before.before.before.args in
-    rw (sym c.before.before.unsound.ensures ∙ c.before.if1.true) (ap (λ (r : Stepped). stepped r a.out.now) c.refuse.ensures)
+    let a = c.args in
+    rw (sym c.unsound.ensures ∙ c.if-unsound.true) (ap (λ (r : Stepped). stepped r a.out.now) c.refuse.ensures)
 
-buffer : tie.Need-returns-2
+buffer : tie.Need-returns-then-out-lt17
 unfolding step
 buffer c =
-    let a = c.before.before.before.before.before.before.args in
-    rw (sym c.before.before.before.unsound.ensures ∙ c.before.before.if1.false, lt-ltb (length a.out.now) ROOM c.before.if2.true)
-    (ap (λ (r : Stepped). stepped r a.out.now) c.refuse2.ensures)
+    let a = c.args in
+    rw (sym c.unsound.ensures ∙ c.if-unsound.false, lt-ltb (length a.out.now) ROOM c.if-out-lt17.true)
+    (ap (λ (r : Stepped). stepped r a.out.now) c.refuse-then-out-lt17.ensures)
 
 -- behind both rows
-abbrev start : tie.Else2 → tie.Start
-start e = e.before.before.before.before.before
+sound : (e : tie.Else-out-lt17) → unsound e.args.host.limit e.args.host.polls ≡ false
+sound e = sym e.unsound.ensures ∙ e.if-unsound.false
 
-sound : (e : tie.Else2) → unsound (start e).args.host.limit (start e).args.host.polls ≡ false
-sound e = sym e.before.before.unsound.ensures ∙ e.before.if1.false
-
-polled : (e : tie.Else2) → (start e).args.host.polls ≤ 1000
+polled : (e : tie.Else-out-lt17) → e.args.host.polls ≤ 1000
 polled e =
-    let r = in_range (start e).args.host.limit (start e).args.host.polls (sound e) in
+    let r = in_range e.args.host.limit e.args.host.polls (sound e) in
     let p = r.polled in
     let m = r.most in
     omega arith
 
-by : (e : tie.Else2) (p : Phase) (r : Result) → let a = (start e).args in
+by : (e : tie.Else-out-lt17) (p : Phase) (r : Result) → let a = e.args in
     a.host.phase ≡ p → r ≡ turns p a.host a.reply.now a.out.now → r ≡ step a.host a.reply.now a.out.now
 by e p r =
-    let a = (start e).args in
-    runs a.host a.reply.now a.out.now (sound e) e.if2.false p r
+    let a = e.args in
+    runs a.host a.reply.now a.out.now (sound e) e.if-out-lt17.false p r
 
-first : tie.Need-returns-3
+first : tie.Need-returns-in-Start
 unfolding turns
-first c = by c.before.before.before.before.before.before _ _ c.before.before.before.before.enum_told.given.1 c.before.before.sends.ensures
+first c = by c.before.before.before.before.before.before _ _ c.in-Start.is c.sends.ensures
 
-reply : tie.Need-returns-4
+reply : tie.Need-returns-in-Sent
 unfolding turns
 reply c =
-    let e = c.before.before.before.before.before.before.before in
-    by e _ _ c.before.before.before.before.before.phase.given.1 c.before.before.hears.ensures
+    let e = c.before.before.before.before.before in
+    by e _ _ c.in-Sent.is c.hears.ensures
 
-ended : tie.Need-returns-5
+ended : tie.Need-returns-in-Ended
 unfolding turns
 ended c =
-    let e = c.before.before.before in
-    by e _ _ c.before.enum-told2.given.1 (ap (λ (r : Stepped). stepped r (start e).args.out.now) c.refuse3.ensures)
+    let e = c.before.before in
+    by e _ _ c.in-Ended.is (ap (λ (r : Stepped). stepped r e.args.out.now) c.refuse-in-Ended.ensures)
 
 pub step_spec : {M : Type 1} → statement M
 step_spec =
@@ -82,7 +79,7 @@ step_spec =
     (λ c. search rules)
     (λ c κs. let h = polled c.before.before.before in search rules)
     (λ c. search rules)
-    (λ c κs. let h = polled c.before.before.before.before in search rules)
+    (λ c κs. let h = polled c.before.before in search rules)
     (λ c. search rules)
     (λ c κs. search rules)
     (λ c. search rules)

@@ -30,32 +30,32 @@ module _
         let q = sym is ∙ ap (λ (y : Heard). y.judgement) e in
         λ i. answered h k (is_row i).next (q i) (e i).found out
 
-heard_by : (at : tie.After-hear) (j : Judgement) → let a = at.before.before.before.before.before.args in
-    at.hear.result.judgement ≡ j
-    → answered a.host a.command at.before.row.result.next j at.hear.result.found a.out.now
+heard_by : (at : tie.After-hear-heard) (j : Judgement) → let a = at.args in
+    at.hear-heard.result.judgement ≡ j
+    → answered a.host a.command at.row-r.result.next j at.hear-heard.result.found a.out.now
     ≡ hears a.host a.command a.reply.now a.out.now
 heard_by at j told =
-    let a = at.before.before.before.before.before.args in
-    by a.host a.command a.reply.now a.out.now _ _ j at.before.row.ensures at.hear.ensures told
+    let a = at.args in
+    by a.host a.command a.reply.now a.out.now _ _ j at.row-r.ensures at.hear-heard.ensures told
 
-expected : tie.Need-returns
+expected : tie.Need-returns-in-Expected
 unfolding answered
 expected c =
-    let told = c.before.before.before.before.enum_told.given.1 in
-    c.before.before.follows.ensures ∙ heard_by c.before.before.before.before.before.before.before Expected told
+    let told = c.in-Expected.is in
+    c.follows.ensures ∙ heard_by c.before.before.before.before.before.before Expected told
 
-busy : tie.Need-returns-2
+busy : tie.Need-returns-in-Busy
 unfolding answered
 busy c =
-    let told = c.before.before.before.before.enum-told2.given.1 in
-    c.before.before.goes.ensures ∙ heard_by c.before.before.before.before.before.before.before Busy told
+    let told = c.in-Busy.is in
+    c.goes.ensures ∙ heard_by c.before.before.before.before.before.before Busy told
 
-stops : tie.Need-returns-3
+stops : tie.Need-returns-in-Unexpected
 unfolding answered end
 stops c =
-    let at = c.before.before.before.before.before in
-    let told = c.before.before.judgement.given.1 in
-    ap (λ (r : Stepped). stepped r at.before.before.before.before.before.args.out.now) c.end.ensures ∙ heard_by at _ told
+    let at = c.before.before.before in
+    let told = c.in-Unexpected.is in
+    ap (λ (r : Stepped). stepped r at.args.out.now) c.end.ensures ∙ heard_by at _ told
 
 pub hears_spec : {M : Type 1} → statement M
 hears_spec =

@@ -18,8 +18,7 @@ use Rattle.host.specs.declared.Row.{Row}
 use Rattle.host.specs.Sequence.{row}
 use Rattle.host.specs.Host.{counted, sends}
 use Rattle.host_step.specs.Report.{reported}
-use Rattle.host_step.proofs.turn.sends.Statement.{statement}
-use Rattle.host_step.proofs.turn.sends.Tie as tie
+use Rattle.host_step.proofs.turn.sends.Goals as goal
 
 -- an index and an argument that fit, and room
 encodes : (index argument : ℕ) (out : List ℕ) → index < 64 → argument < 4294967296 → 17 ≤ length out
@@ -39,25 +38,20 @@ row_fits SendRelativeAddr rca h = (omega arith, omega arith)
 row_fits SendCsd rca h = (omega arith, omega arith)
 row_fits SelectCard rca h = (omega arith, omega arith)
 
-sent-frame : tie.Need-returns
+pub returns : goal.returns
 unfolding sends
-sent-frame c =
-    let at = c.before.before.before.before in
-    let a = at.before.before.before.before.args in
-    let r = at.before.before.row.ensures in
+returns c =
+    let at = c in
+    let a = at.args in
+    let r = at.row-r.ensures in
     let small : a.found.rca < 65536 = search rules in
     let room : 17 ≤ length a.out.now = search rules in
     let fit = row_fits a.command a.found.rca small in
-    let e = at.encode.ensures ∙ ap (λ (x : Row). encode command (x.index ∷ x.argument ∷ []) a.out.now) r ∙ encodes _ _ _ fit.0 fit.1 room in
-    let answers = c.before.report.ensures ∙ ap (λ (x : Encoding). reported x.answer) e in
+    let e = at.encode-e.ensures ∙ ap (λ (x : Row). encode command (x.index ∷ x.argument ∷ []) a.out.now) r ∙ encodes _ _ _ fit.0 fit.1 room in
+    let answers = c.report.ensures ∙ ap (λ (x : Encoding). reported x.answer) e in
     let counts = c.counted.ensures ∙ ap (λ (x : Row). counted x.index a.host.polls) r in
     λ i. record {
       answer = answers i;
       host = record { limit = a.host.limit; polls = counts i; phase = Sent a.command; found = a.found };
       out = (e i).buffer;
     }
-
-pub sends_spec : {M : Type 1} → statement M
-sends_spec =
-    tie.close
-    (tie.spec (λ c κs. search rules) (λ c κs. search rules) (λ c κs. search rules) (λ c κs. search rules) (λ c. search rules) sent-frame)
