@@ -1,0 +1,15 @@
+-- `equals` compares element by element: at the loop's head, what is left is equal where the whole is.
+use mathlib.Core.Path.{◌≡◌, refl, sym}
+use Prim.Native.Nat.{◌-◌, ◌≤◌}
+use native.Mathlib.Omega.{arith}
+use borrow.Author.Rules.{rules}
+use lib.ListN.{length, drop}
+use Rattle.card.specs.Soundness.{equal}
+use Rattle.replay_read.proofs.Words.{lengths_differ, equal-differs, equal-more, equal-end}
+use Rattle.replay_read.proofs.fields.equals.Given as goal
+
+abbrev pub invariant-loop-i : goal.invariant-loop-i
+invariant-loop-i l = (l.i ≤ length l.a) × (equal (drop l.i l.a) (drop l.i l.b) ≡ equal l.a l.b)
+
+abbrev pub decreases-loop-i : goal.decreases-loop-i
+decreases-loop-i l = length l.a - l.i
