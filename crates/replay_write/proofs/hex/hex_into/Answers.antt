@@ -1,0 +1,31 @@
+-- `hex_into` writes two digits a turn: at the loop's head what is written and the digits that are left are all of them.
+use mathlib.Core.Path.{◌≡◌, refl}
+use mathlib.Core.List.{◌++◌}
+use Prim.Native.Nat.{◌*◌, ◌-◌, ◌≤◌}
+use native.Mathlib.Omega.{arith}
+use borrow.Author.Rules.{rules}
+use lib.Bits.{mask_lt}
+use lib.ListN.{length, get_or, take, drop, length-set}
+use Rattle.replay_read.specs.Hex.{hex}
+use Rattle.replay_write.proofs.Digits.{hex-more, hex_all}
+use Rattle.replay_write.proofs.hex.hex_into.Goals as goal
+
+pub loop-i-init : goal.loop-i-init
+loop-i-init c = (omega arith, refl, refl)
+
+pub digit-requires : goal.digit-requires
+digit-requires c = omega (arith, c.type_inv.bytes c.loop-i.i)
+
+pub digit-requires-in-loop-i : goal.digit-requires-in-loop-i
+digit-requires-in-loop-i c = mask_lt (get_or c.args.bytes.now c.loop-i.i 0) 4
+
+pub bounds-out-at-in-loop-i : goal.bounds-out-at-in-loop-i
+bounds-out-at-in-loop-i c = simp length-set (omega arith)
+
+pub loop-i-preserved : goal.loop-i-preserved
+loop-i-preserved c =
+    let at = c.loop-i in
+    (omega arith, simp length-set at.invariant.1, hex-more _ _ _ _ _ (search rules) (omega arith) c.digit.ensures c.digit-in-loop-i.ensures at.invariant.2)
+
+pub returns : goal.returns
+returns c = hex_all _ _ c.loop-i.i (search rules) (omega arith) c.loop-i.invariant.2
