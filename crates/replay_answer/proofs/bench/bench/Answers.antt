@@ -1,0 +1,11 @@
+-- The power-up is not refused.
+use borrow.Author.Rules.{rules}
+use Rattle.replay_answer.proofs.Powered.{powered}
+use Rattle.replay_answer.proofs.bench.bench.Goals as goal
+
+pub returns : goal.returns
+returns c =
+    let none = c in
+    let memory = none.args.memory.now in
+    let call = c.power_up-s in
+    powered _ memory none.no_password.result call.result (search rules) none.no_password.ensures call.ensures
