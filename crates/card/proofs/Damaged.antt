@@ -21,7 +21,6 @@ use Rattle.card.specs.declared.Open.{Open}
 use Rattle.card.specs.declared.Open.TheVariants.{Nothing, Read, Write, Busy}
 use Rattle.card.specs.declared.Core.{Core}
 use Rattle.card.specs.declared.Password.{Password}
-use Rattle.card.specs.declared.done.Effect as Effect
 use Rattle.card.specs.declared.done.Effect.{Effect}
 use Rattle.card.specs.declared.done.Flag.{Flag}
 use Rattle.card.specs.declared.done.Flag.TheVariants.{Keep}

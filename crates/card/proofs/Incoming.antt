@@ -2,18 +2,18 @@
 use mathlib.Core.Path.{◌≡◌, refl, ◌∙◌}
 use mathlib.Core.Bool.{Bool, true, false, cond, not, ◌&&◌, ◌||◌, true≢false}
 use mathlib.Core.List.{List}
-use Prim.Native.Nat.{ℕ, ◌+◌, ◌-◌, ◌≤◌}
+use Prim.Native.Nat.{ℕ, ◌+◌}
 use native.Mathlib.Omega.{arith}
-use borrow.Author.Tests.{eqb-true, not-false}
+use borrow.Author.Tests.{eqb-true}
 use lib.Dec.{eqb}
-use lib.ListN.{length, get_or, take, drop, length-take, length-drop}
+use lib.ListN.{length, get_or, drop, length-take, length-drop}
 use Rattle.wire_packet.specs.Packet.{CHECK, payload_of}
 use Rattle.card.specs.declared.Core.{Core}
 use Rattle.card.specs.Settings.{BLOCK}
 use Rattle.card.specs.State.{in_spi, checking, open_of, writing_multiple, locking}
 use Rattle.card.specs.Spi.{STOP_TRAN, start_token}
-use Rattle.card.specs.Step.{Incoming, payload, stop, ignored, packet_in, token_in, incoming, packet_size, token_size, block_size, lone_byte, other_block}
-use Rattle.card.proofs.Choices.{cond_elim, cond_either}
+use Rattle.card.specs.Step.{Incoming, payload, stop, ignored, packet_in, token_in, incoming, packet_size, token_size, lone_byte, other_block}
+use Rattle.card.proofs.Choices.{cond_elim}
 
 -- all but the check
 payload-length : (n : ℕ) (s : List ℕ) → length s ≡ n + CHECK → length (payload_of s) + CHECK ≡ n + CHECK

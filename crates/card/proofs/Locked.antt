@@ -20,7 +20,7 @@ use Rattle.card.specs.State.{number, idle, in_spi}
 use Rattle.card.specs.Table.{row}
 use Rattle.card.specs.Protect.{whole, guarded, any_guarded}
 use Rattle.card.specs.Checks.{Check, first_failure, outside, crossing}
-use Rattle.card.specs.Execute.{ran, raise, checked, window, fitting, pending, settled, erase_start, erase_end, skipped, erased, erase, send_op_cond, send_op_cond_spi, sd_send_op_cond, run_at}
+use Rattle.card.specs.Execute.{ran, raise, checked, window, fitting, pending, settled, erase_start, erase_end, skipped, erase, send_op_cond, send_op_cond_spi, sd_send_op_cond, run_at}
 use Rattle.card.specs.Frame.{Turn}
 use Rattle.card.specs.Receive.{receive}
 use Rattle.card.specs.Data.{take_source, take_from, write_into, over_from}

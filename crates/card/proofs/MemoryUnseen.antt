@@ -4,7 +4,7 @@ use mathlib.Core.Bool.{Bool, true, false, cond, not, ◌&&◌, ◌||◌, false�
 use mathlib.Core.List.{List, [], ◌∷◌}
 use mathlib.Core.Option.{Option, none, some}
 use Prim.Native.Nat.{ℕ}
-use lib.Dec.{eqb, leb, ltb}
+use lib.Dec.{eqb, ltb}
 use lib.ListN.{length, replicate}
 use Rattle.codec.specs.Answer.{done}
 use Rattle.card.specs.declared.Settings.{Settings}
@@ -13,7 +13,6 @@ use Rattle.card.specs.declared.Source.TheVariants.{Blocks, WriteProtect, SdStatu
 use Rattle.card.specs.declared.Sink.TheVariants.{Single, Multiple, LockUnlock}
 use Rattle.card.specs.declared.State.{State}
 use Rattle.card.specs.declared.State.TheVariants.{Idle, Ready, Ident, Stby, Tran, Data, Rcv, Prg, Dis, Ina}
-use Rattle.card.specs.declared.Open as Open
 use Rattle.card.specs.declared.Open.{Open}
 use Rattle.card.specs.declared.Open.TheVariants.{Read, Write, Busy}
 use Rattle.card.specs.declared.Core.{Core}
@@ -38,11 +37,10 @@ use Rattle.card.specs.Receive.{receive}
 use Rattle.card.specs.Lock.{operation}
 use Rattle.card.specs.Data.{word32, mark_bytes, single, operate, lock_into, write_into, take_source, take_from, block_into, password_into, over_from, ACCEPTED, REJECTED}
 use Rattle.card.specs.Step.{Call, power_up, command_frame, block_in, take_block, busy_over, World, world, Result, over, refuse, refusal, POWER_ROWS, FRAME_ROWS, BLOCK_ROWS, TAKE_ROWS, OVER_ROWS, unless, other_size, FRAME, ROOM, other_block, block_room, flagged, show, fresh, start, permitted, opened, Incoming, payload, stop, ignored, success, entered, arrived, led, handed, power_refusal, frame_refusal, block_refusal, take_refusal, over_refusal, powered_up, framed, given, taken, overed, step, next}
-use Rattle.card.specs.History.{Sound, Start}
-use Rattle.card.specs.Locked.{erases_by, source_shut, shut, Shut, StartsShut, KeepsShut, is_force_erase, passes, force_erases, AlikeButMemory, AgreeButMemory, MemoryUnseen}
+use Rattle.card.specs.Locked.{erases_by, source_shut, shut, Shut, StartsShut, KeepsShut, is_force_erase, passes, force_erases, MemoryUnseen}
 use Rattle.card.proofs.Choices.{cond_either, unless_keeps}
 use Rattle.card.proofs.Locked.{receive-held, source_held, write-held}
-use Rattle.card.proofs.Shut.{Closed, after-closed, Quiet, receive-quiet}
+use Rattle.card.proofs.Shut.{Closed, after-closed, receive-quiet}
 use Rattle.card.proofs.Sound.{keeps_sound}
 
 -- ---- a locked card stays shut

@@ -1,5 +1,5 @@
 -- No call of data changes the bus mode; a frame that changes it clears COM_CRC_ERROR.
-use mathlib.Core.Path.{◌≡◌, refl, sym, ap, ◌∙◌}
+use mathlib.Core.Path.{◌≡◌, refl, sym, ◌∙◌}
 use mathlib.Core.Bool.{Bool, true, false, not, true≢false}
 use mathlib.Core.List.{List}
 use Prim.Native.Nat.{ℕ}
@@ -19,9 +19,9 @@ use Rattle.card.specs.Checks.{outside, crossing}
 use Rattle.card.specs.Lock.{operation}
 use Rattle.card.specs.Frame.{Turn}
 use Rattle.card.specs.Receive.{receive}
-use Rattle.card.specs.Data.{take_source, take_from, write_into, acted, operate, lock_into, block_into, over_from}
+use Rattle.card.specs.Data.{take_source, take_from, write_into, operate, lock_into, block_into, over_from}
 use Rattle.card.proofs.Choices.{cond_either}
-use Rattle.card.proofs.Received.{doing, receive_elim}
+use Rattle.card.proofs.Received.{receive_elim}
 
 module _ (c : Core) where
   abbrev InMode : Turn → Type 0

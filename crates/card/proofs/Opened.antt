@@ -20,11 +20,10 @@ use Rattle.card.specs.Record.{with_written}
 use Rattle.card.specs.State.{number, in_spi, open_of, source_address, sink}
 use Rattle.card.specs.Status.{BLOCK_LEN_ERROR, OUT_OF_RANGE, ADDRESS_ERROR, WP_VIOLATION}
 use Rattle.card.specs.Table.{row, legal, after}
-use Rattle.card.specs.Protect.{group_of, whole, guarded}
+use Rattle.card.specs.Protect.{whole, guarded}
 use Rattle.card.specs.Checks.{◌sets◌, outside, crossing, off_block, address_checks, read_checks, write_checks}
-use Rattle.card.specs.Execute.{ran, moved, opening, checked, read_blocks, write_blocks, set_mark}
+use Rattle.card.specs.Execute.{ran, moved, opening, read_blocks, write_blocks, set_mark}
 use Rattle.card.specs.Soundness.{bad_rca}
-use Rattle.card.proofs.Choices.{cond_elim}
 use Rattle.card.proofs.Facts.{Transfer, Sturdy}
 use Rattle.card.proofs.Changes.{stand, data_transfer, rcv-transfer, lock-transfer}
 use Rattle.card.proofs.Marks.{group_in}

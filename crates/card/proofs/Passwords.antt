@@ -1,17 +1,15 @@
 -- The password stays sound: after the block of 42 it has 1 to 16 bytes where the card is locked, and no more than 16 elsewhere.
-use mathlib.Core.Path.{◌≡◌, refl, sym, ap, ◌∙◌}
-use mathlib.Core.Bool.{Bool, true, false, cond, not, ◌&&◌, and-eq-true_iff, false≢true}
+use mathlib.Core.Path.{◌≡◌, refl, ap, ◌∙◌}
+use mathlib.Core.Bool.{Bool, true, false, not, ◌&&◌, and-eq-true_iff, false≢true}
 use mathlib.Core.List.{List}
-use Prim.Native.Nat.{ℕ, ◌+◌, ◌-◌, ◌≤◌, ◌<◌}
+use Prim.Native.Nat.{ℕ, ◌+◌, ◌-◌, ◌≤◌}
 use native.Mathlib.Omega.{arith}
 use borrow.Author.Tests.{eqb-false, ne_eqb, ltb-false, leb-true, le-ltb}
 use lib.Dec.{eqb, leb, ltb}
 use lib.ListN.{length, drop, length-drop}
-use Rattle.wire_packet.specs.Packet.{packet_right, payload_of}
 use Rattle.card.specs.declared.Sink.TheVariants.{Single, Multiple, LockUnlock}
 use Rattle.card.specs.declared.Open.{Open}
 use Rattle.card.specs.declared.Open.TheVariants.{Nothing, Read, Write, Busy}
-use Rattle.card.specs.declared.State.TheVariants.{Tran, Prg}
 use Rattle.card.specs.declared.Core.{Core}
 use Rattle.card.specs.declared.Password.{Password}
 use Rattle.card.specs.declared.lock.Operation.{Operation}

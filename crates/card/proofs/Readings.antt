@@ -1,6 +1,6 @@
 -- The bench readings hold: one claim about the whole table, by computation.
-use mathlib.Core.Path.{◌≡◌, refl}
-use mathlib.Core.Bool.{true, xor}
+use mathlib.Core.Path.{refl}
+use mathlib.Core.Bool.{xor}
 use Rattle.codec.specs.Format.{ended, image, right, decode}
 use Rattle.codec.specs.Layout.{width, write, read, fits as Layout·fits, judged}
 use Rattle.crc.specs.Altered.{}

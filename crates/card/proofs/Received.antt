@@ -4,7 +4,6 @@ use mathlib.Core.Bool.{Bool, true, false, ◌&&◌, and-eq-true_iff}
 use mathlib.Core.List.{List}
 use Prim.Native.Nat.{ℕ}
 use lib.Dec.{eqb}
-use Rattle.wire_frame.specs.Command.{frame_check, frame_check_by}
 use Rattle.wire_frame.specs.declared.command.FrameCheck.{FrameCheck}
 use Rattle.wire_frame.specs.declared.command.FrameCheck.TheVariants.{Good, Size, Start, Check}
 use Rattle.card.specs.declared.Core.{Core}
@@ -13,7 +12,7 @@ use Rattle.card.specs.declared.done.Done.{Done}
 use Rattle.card.specs.declared.done.Judged.{Judged}
 use Rattle.card.specs.declared.done.Flag.TheVariants.{Keep, Set}
 use Rattle.card.specs.Record.{with_app}
-use Rattle.card.specs.State.{number, ina, in_spi, checking}
+use Rattle.card.specs.State.{number, ina, in_spi}
 use Rattle.card.specs.Status as Status
 use Rattle.card.specs.Table.{row, command_of, own, misses, legal, accepts}
 use Rattle.card.specs.Execute.{raise, settled, run}

@@ -1,7 +1,7 @@
 -- Nothing of a locked card's memory shows, and nothing of it changes but by a force erase: no command that such a card accepts touches
 -- memory or opens a transfer of it.
 use mathlib.Core.Path.{◌≡◌, refl, ap, subst, ◌∙◌}
-use mathlib.Core.Bool.{Bool, true, false, ◌&&◌, false≢true}
+use mathlib.Core.Bool.{Bool, true, ◌&&◌, false≢true}
 use mathlib.Core.List.{List, []}
 use Prim.Native.Nat.{ℕ}
 use lib.Dec.{eqb, leb}

@@ -26,7 +26,7 @@ use Rattle.card.specs.Receive.{receive}
 use Rattle.card.specs.Lock.{content}
 use Rattle.card.specs.Data.{block_into, password_into, over_from}
 use Rattle.card.specs.Soundness.{bad_app, marked_from, bad_password}
-use Rattle.card.specs.Step.{power_up, command_frame, block_in, take_block, busy_over, World, world, Result, over, after, show, applies, fresh, start, packet_size, opened, Incoming, payload, stop, ignored, success, entered, arrived, handed, permitted, power_refusal, frame_refusal, block_refusal, take_refusal, over_refusal, powered_up, framed, given, taken, overed, step}
+use Rattle.card.specs.Step.{power_up, command_frame, block_in, take_block, busy_over, World, world, Result, over, after, show, applies, fresh, start, packet_size, opened, payload, stop, ignored, success, entered, arrived, handed, permitted, power_refusal, frame_refusal, block_refusal, take_refusal, over_refusal, powered_up, framed, given, taken, overed, step}
 use Rattle.card.specs.History.{Sound, KeepsSound, StartsSound}
 use Rattle.card.proofs.Choices.{unless_keeps, spared}
 use Rattle.card.proofs.Facts.{Marked, Facts, equal-refl, facts-sound, sound-facts}

@@ -6,12 +6,10 @@ use mathlib.Core.Option.{Option, none, some}
 use Prim.Native.Nat.{ℕ, ◌<◌}
 use native.Mathlib.Omega.{arith}
 use borrow.Author.Tests.{leb-false}
-use Rattle.card.specs.declared.Settings.{Settings}
 use Rattle.card.specs.declared.Core.{Core}
 use Rattle.card.specs.declared.done.Response.{Response}
 use Rattle.card.specs.declared.done.Response.TheVariants.{R1}
 use Rattle.card.specs.declared.done.Done.{Done}
-use Rattle.card.specs.Settings.{capacity}
 use Rattle.card.specs.Status.{OUT_OF_RANGE}
 use Rattle.card.specs.Checks.{Check, ◌sets◌, first_failure, outside}
 use Rattle.card.specs.Execute.{ran, raise, checked}

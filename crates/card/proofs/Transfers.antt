@@ -1,8 +1,8 @@
 -- Data blocks and busy over keep a record sound, and a block that is stored is inside the card.
 use mathlib.Core.Path.{◌≡◌, refl, sym, subst, ◌∙◌}
-use mathlib.Core.Bool.{Bool, true, false, cond, not, ◌&&◌}
+use mathlib.Core.Bool.{Bool, true, false, cond, not}
 use mathlib.Core.List.{List}
-use Prim.Native.Nat.{ℕ, ◌+◌, ◌-◌, ◌/◌, ◌%◌, ◌≤◌, ◌<◌}
+use Prim.Native.Nat.{ℕ, ◌+◌, ◌/◌, ◌%◌, ◌≤◌, ◌<◌}
 use native.Mathlib.Omega.{arith}
 use borrow.Author.Tests.{leb-false, ltb-false, eqb-true, not-false}
 use lib.Dec.{eqb}
@@ -10,7 +10,6 @@ use lib.ListN.{length}
 use Rattle.wire_packet.specs.Packet.{CHECK}
 use Rattle.card.specs.declared.Source.{Source}
 use Rattle.card.specs.declared.Source.TheVariants.{Blocks, WriteProtect, SdStatus, WrittenBlocks, Scr, Csd, Cid}
-use Rattle.card.specs.declared.Sink.{Sink}
 use Rattle.card.specs.declared.Sink.TheVariants.{Single, Multiple, LockUnlock}
 use Rattle.card.specs.declared.State.{State}
 use Rattle.card.specs.declared.State.TheVariants.{Idle, Ready, Ident, Stby, Tran, Data, Rcv, Prg, Dis, Ina}
@@ -23,7 +22,7 @@ use Rattle.card.specs.declared.lock.Operation.{Operation}
 use Rattle.card.specs.declared.lock.Operation.TheVariants.{ForceErase, Lock, Unlock, ClearPassword, SetPassword, Invalid}
 use Rattle.card.specs.Settings.{BLOCK, capacity}
 use Rattle.card.specs.Record.{with_state, with_written}
-use Rattle.card.specs.State.{number, in_spi, open_of, locking, source_address, sink}
+use Rattle.card.specs.State.{in_spi, open_of, locking, source_address, sink}
 use Rattle.card.specs.Protect.{whole, guarded}
 use Rattle.card.specs.Checks.{outside, crossing}
 use Rattle.card.specs.Frame.{Turn, token, quiet, said}

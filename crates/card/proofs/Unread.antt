@@ -6,7 +6,6 @@ use mathlib.Core.Option.{Option, none, some}
 use Prim.Native.Nat.{ℕ, ◌+◌, ◌-◌, ◌/◌}
 use lib.Dec.{eqb, leb, ltb}
 use lib.ListN.{length, replicate}
-use Rattle.wire_frame.specs.Command.{frame_check, frame_check_by}
 use Rattle.wire_frame.specs.declared.command.FrameCheck.{FrameCheck}
 use Rattle.wire_frame.specs.declared.command.FrameCheck.TheVariants.{Good, Size, Start, Check as WrongCheck}
 use Rattle.wire_response.specs.Response as Wire
@@ -14,17 +13,14 @@ use Rattle.card.specs.declared.Source.{Source}
 use Rattle.card.specs.declared.Source.TheVariants.{Blocks, WriteProtect, SdStatus, WrittenBlocks, Scr, Csd as CsdBlock, Cid as CidBlock}
 use Rattle.card.specs.declared.Sink.{Sink}
 use Rattle.card.specs.declared.Sink.TheVariants.{Single, Multiple}
-use Rattle.card.specs.declared.Open as Open
 use Rattle.card.specs.declared.Open.{Open}
 use Rattle.card.specs.declared.Open.TheVariants.{Read, Write, Busy}
 use Rattle.card.specs.declared.Kept.{Kept}
 use Rattle.card.specs.declared.Core.{Core}
 use Rattle.card.specs.declared.lock.Operation.{Operation}
 use Rattle.card.specs.declared.lock.Operation.TheVariants.{ForceErase, Lock, Unlock, ClearPassword, SetPassword, Invalid}
-use Rattle.card.specs.declared.command.Command as Command
 use Rattle.card.specs.declared.command.Command.{Command}
 use Rattle.card.specs.declared.command.Command.TheVariants.{GoIdleState, AllSendCid, SendRelativeAddr, SelectCard, DeselectCard, SendIfCond, SendCsd, SendCid, StopTransmission, SendStatus, AppCmd, GoInactiveState, SetBlocklen, ReadSingleBlock, ReadMultipleBlock, SendWriteProt, WriteBlock, WriteMultipleBlock, LockUnlock, SetWriteProt, ClrWriteProt, Erase, EraseWrBlkStart, EraseWrBlkEnd, SendNumWrBlocks, SendScr, SetWrBlkEraseCount, SetClrCardDetect, SdSendOpCond, ReadOcr, CrcOnOff, Unknown}
-use Rattle.card.specs.declared.done.Response as Response
 use Rattle.card.specs.declared.done.Response.{Response}
 use Rattle.card.specs.declared.done.Response.TheVariants.{R1, R6, Cid, Csd, R3, R7}
 use Rattle.card.specs.declared.done.Effect.{Effect}
@@ -35,7 +31,7 @@ use Rattle.card.specs.declared.done.Flag.TheVariants.{Keep}
 use Rattle.card.specs.declared.Mode.TheVariants.{Spi}
 use Rattle.card.specs.Settings.{BLOCK, capacity, cid_bytes, csd_bytes}
 use Rattle.card.specs.Record.{with_kept, with_app, with_mode, is_set, address}
-use Rattle.card.specs.State.{idle, number, ina, in_spi, checking}
+use Rattle.card.specs.State.{idle, number, ina, in_spi}
 use Rattle.card.specs.Status.{no_bits, join}
 use Rattle.card.specs.Table.{row, command_of, own, misses, sets_app, legal, accepts}
 use Rattle.card.specs.Protect.{whole, guarded, any_guarded}

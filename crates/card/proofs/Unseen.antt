@@ -30,7 +30,7 @@ use Rattle.card.specs.Step.{Call, power_up, command_frame, block_in, take_block,
 use Rattle.card.specs.declared.command.Command.TheVariants.{StopTransmission}
 use Rattle.card.specs.declared.done.Flag.TheVariants.{Keep}
 use Rattle.card.specs.History.{Sound}
-use Rattle.card.specs.Locked.{SameButPassword, locks, SameBits, AlikeButPassword, AgreeButPassword, PasswordUnseen}
+use Rattle.card.specs.Locked.{SameButPassword, locks, SameBits, PasswordUnseen}
 use Rattle.card.proofs.Sound.{keeps_sound}
 
 -- what is claimed of two results; after a block of 42 the worlds are the same if the two bits are

@@ -1,14 +1,13 @@
 -- The readings of the lock (02, order 4): passwords, the locked card, force erase. The blocks have the form of 003's lock section, for
 -- the password ABCD; their checks were worked out apart.
-use Rattle.std.specs.Prelude.{Bool, true, false, List, [], ◌∷◌, ◌++◌, ℕ, ◌+◌, ◌*◌, replicate}
+use Rattle.std.specs.Prelude.{Bool, true, false, List, [], ◌∷◌, ◌++◌, ℕ, ◌*◌, replicate}
 use Rattle.crc.specs.Bits.{bits, bytes}
 use Rattle.wire_packet.specs.Packet.{packet}
 use Rattle.card.specs.declared.Settings.{Settings}
 use Rattle.card.specs.declared.Password.{Password}
-use Rattle.card.specs.Settings.{capacity, csd_bytes, csd_of}
-use Rattle.card.specs.Record.{with_locked}
+use Rattle.card.specs.Settings.{csd_bytes, csd_of}
 use Rattle.card.specs.Lock.{password_of, no_password}
-use Rattle.card.specs.Step.{Call, power_up, command_frame, block_in, World, world, line, fresh, start}
+use Rattle.card.specs.Step.{power_up, block_in, World, world, line, fresh, start}
 use Rattle.card.specs.Reading.{small, Reading, none, rsp, ◌shows◌, frame, quietly, taking, writing, damaging, overs, refusing, block, zeros, Example, on, from, cid_line, selected, send_status_call}
 
 -- ---- cards

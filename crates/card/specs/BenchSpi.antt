@@ -1,5 +1,5 @@
 -- The readings of SPI mode (02, order 5): responses as bytes, tokens, checks on and off, what is allowed where.
-use Rattle.std.specs.Prelude.{Bool, true, false, List, [], ◌∷◌, ◌++◌, ℕ, replicate}
+use Rattle.std.specs.Prelude.{true, List, [], ◌∷◌, ◌++◌, ℕ, replicate}
 use Rattle.wire_packet.specs.Packet.{packet}
 use Rattle.card.specs.Settings.{cid_bytes, csd_bytes, csd_of}
 use Rattle.card.specs.Step.{Call, power_up, command_frame, block_in, take_block, busy_over}

@@ -1,13 +1,11 @@
 -- Data blocks (01, "Take", "Block in", "Busy over"; 02, order 4), by what the state has open: payloads, whatever frames them in a bus mode.
-use Rattle.std.specs.Prelude.{Bool, true, false, cond, not, ◌&&◌, List, [], ◌∷◌, ℕ, ◌+◌, take, drop, replicate}
+use Rattle.std.specs.Prelude.{Bool, true, false, cond, not, ◌&&◌, List, [], ℕ, ◌+◌, take, drop, replicate}
 use Rattle.crc.specs.Bits.{bits, bytes}
 use Rattle.card.specs.declared.Source.{Source}
 use Rattle.card.specs.declared.Source.TheVariants.{Blocks, WriteProtect, SdStatus, WrittenBlocks, Scr, Csd, Cid}
 use Rattle.card.specs.declared.Sink.{Sink}
 use Rattle.card.specs.declared.Sink.TheVariants.{Single, Multiple, LockUnlock}
-use Rattle.card.specs.declared.State.{State}
 use Rattle.card.specs.declared.State.TheVariants.{Tran, Data, Rcv, Prg}
-use Rattle.card.specs.declared.Open as Open
 use Rattle.card.specs.declared.Open.{Open}
 use Rattle.card.specs.declared.Open.TheVariants.{Read, Write, Busy}
 use Rattle.card.specs.declared.Settings.{Settings}
@@ -15,7 +13,6 @@ use Rattle.card.specs.declared.Core.{Core}
 use Rattle.card.specs.declared.Password.{Password}
 use Rattle.card.specs.declared.lock.Operation.{Operation}
 use Rattle.card.specs.declared.lock.Operation.TheVariants.{ForceErase, Lock, Unlock, ClearPassword, SetPassword, Invalid}
-use Rattle.card.specs.declared.done.Effect as Effect
 use Rattle.card.specs.declared.done.Effect.{Effect}
 use Rattle.card.specs.declared.done.Effect.TheVariants.{Nothing, Store}
 use Rattle.card.specs.declared.done.Flag.TheVariants.{Keep}

@@ -1,13 +1,11 @@
 -- Which command a frame asks for and what it does, in either bus mode; what a call comes to; and the responses of SD mode (01, "Frames").
-use Rattle.std.specs.Prelude.{Bool, true, false, cond, ◌&&◌, List, [], ◌∷◌, ℕ, eqb}
+use Rattle.std.specs.Prelude.{cond, ◌&&◌, List, [], ◌∷◌, ℕ, eqb}
 use Rattle.codec.specs.Format.{image}
 use Rattle.wire_response.specs.Response as Wire
 use Rattle.card.specs.declared.Core.{Core}
 use Rattle.card.specs.declared.command.Command.{Command}
-use Rattle.card.specs.declared.done.Response as Response
 use Rattle.card.specs.declared.done.Response.{Response}
 use Rattle.card.specs.declared.done.Response.TheVariants.{R1, R6, Cid, Csd, R3, R7}
-use Rattle.card.specs.declared.done.Effect as Effect
 use Rattle.card.specs.declared.done.Effect.{Effect}
 use Rattle.card.specs.declared.done.Done.{Done}
 use Rattle.card.specs.declared.done.Verdict.{Verdict}

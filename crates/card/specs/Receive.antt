@@ -1,5 +1,5 @@
 -- The frame rules (01, "Frames"; 02, order 5), in order, of both bus modes.
-use Rattle.std.specs.Prelude.{Bool, true, false, cond, ◌&&◌, List, ℕ, eqb}
+use Rattle.std.specs.Prelude.{Bool, false, cond, ◌&&◌, List, ℕ, eqb}
 use Rattle.wire_frame.specs.Command.{frame_check, frame_check_by}
 use Rattle.wire_frame.specs.declared.command.FrameCheck.{FrameCheck}
 use Rattle.wire_frame.specs.declared.command.FrameCheck.TheVariants.{Good, Size, Start, Check}

@@ -5,7 +5,6 @@ use Rattle.card.specs.declared.Kept.{Kept}
 use Rattle.card.specs.declared.Core.{Core}
 use Rattle.card.specs.declared.Open.{Open}
 use Rattle.card.specs.declared.command.Command.{Command}
-use Rattle.card.specs.declared.done.Response as Response
 use Rattle.card.specs.declared.done.Response.{Response}
 use Rattle.card.specs.declared.done.Response.TheVariants.{R1, R6, Cid, Csd, R3, R7}
 use Rattle.card.specs.declared.done.Done.{Done}
@@ -14,7 +13,7 @@ use Rattle.card.specs.Record.{with_kept, with_app}
 use Rattle.card.specs.State.{idle, number, writing_multiple}
 use Rattle.card.specs.Status.{no_bits, join, at}
 use Rattle.card.specs.Table.{row, sets_app}
-use Rattle.card.specs.Frame.{Message, spi_r1, plain, Turn, said}
+use Rattle.card.specs.Frame.{spi_r1, Turn}
 
 -- ---- the bits of R1, by the standard's names; bit 7 is 0
 

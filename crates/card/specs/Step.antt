@@ -1,5 +1,5 @@
 -- The five calls: refusals first, in 01's order, and then what the call does. This is the step that histories run.
-use Rattle.std.specs.Prelude.{◌≡◌, Bool, true, false, cond, not, ◌&&◌, ◌||◌, List, [], ◌∷◌, ◌++◌, ℕ, ◌+◌, eqb, leb, ltb, length, get_or, drop, replicate}
+use Rattle.std.specs.Prelude.{Bool, true, false, cond, not, ◌&&◌, ◌||◌, List, [], ◌∷◌, ◌++◌, ℕ, ◌+◌, eqb, leb, ltb, length, get_or, drop, replicate}
 use Rattle.std.proofs.Math.Option.{Option, none, some}
 use Rattle.codec.specs.Answer.{Outcome, done, refused}
 use Rattle.codec.specs.Format.{image}

@@ -5,7 +5,6 @@ use Rattle.std.specs.Bool.{beq}
 use Rattle.card.specs.declared.State.{State}
 use Rattle.card.specs.declared.command.Command.{Command}
 use Rattle.card.specs.declared.command.Command.TheVariants.{GoIdleState, AllSendCid, SendRelativeAddr, SelectCard, DeselectCard, SendIfCond, SendCsd, SendCid, StopTransmission, SendStatus, AppCmd, GoInactiveState, SetBlocklen, ReadSingleBlock, ReadMultipleBlock, SendWriteProt, WriteBlock, WriteMultipleBlock, LockUnlock, SetWriteProt, ClrWriteProt, Erase, EraseWrBlkStart, EraseWrBlkEnd, SdStatus, SendNumWrBlocks, SendScr, SetWrBlkEraseCount, SetClrCardDetect, SdSendOpCond, ReadOcr, CrcOnOff, Unknown}
-use Rattle.card.specs.declared.command.Kind as Kind
 use Rattle.card.specs.declared.command.Kind.{Kind}
 use Rattle.card.specs.declared.command.Kind.TheVariants.{Plain, Application}
 use Rattle.card.specs.declared.command.Rca.{Rca}

@@ -6,7 +6,6 @@ use mathlib.Core.Option.{none}
 use Prim.Native.Nat.{ℕ, ◌+◌, ◌%◌, ◌≤◌}
 use native.Mathlib.Omega.{arith}
 use borrow.Author.Tests.{eqb-true, not-false}
-use lib.Dec.{eqb}
 use lib.ListN.{length, get_or, drop, length-drop}
 use Rattle.wire_packet.specs.Packet.{PAYLOAD, CHECK}
 use Rattle.card.specs.declared.answer.Rows.{Rows}
@@ -31,7 +30,7 @@ use Rattle.card_refuse.specs.Rows.{rows_of}
 use Rattle.card.proofs.Facts.{facts-sound}
 use Rattle.card_refuse.proofs.Passed.{passed, sound_record, sized}
 use Rattle.card_block_in.specs.declared.turn.Transfer.{Transfer}
-use Rattle.card_block_in.specs.Stores.{Stores, Decodes, parts}
+use Rattle.card_block_in.specs.Stores.{parts}
 use Rattle.card_block_in.specs.Enters.{Enters, payload_turned, packet_turned}
 
 aligned : (o : Open) → off_write o ≡ false → (parts o).address % BLOCK ≡ 0

@@ -1,17 +1,15 @@
 -- The call of a frame: what it does stays inside the card, and what is seen of it.
 use mathlib.Core.Path.{◌≡◌, refl, sym, ap, subst, ◌∙◌}
-use mathlib.Core.Bool.{Bool, true, false, cond, not}
+use mathlib.Core.Bool.{Bool, true, cond}
 use mathlib.Core.List.{List, [], ◌∷◌, ◌++◌}
 use mathlib.Core.Option.{none}
-use Prim.Native.Nat.{ℕ, ◌+◌, ◌*◌, ◌≤◌}
+use Prim.Native.Nat.{ℕ, ◌+◌, ◌*◌}
 use native.Mathlib.Omega.{arith}
 use borrow.Author.Tests.{le-ltb, le-leb, ltb-false, eqb-true, not-false}
-use lib.Dec.{eqb}
 use lib.ListN.{length, drop}
 use Rattle.codec.specs.Answer.{done}
 use Rattle.card.specs.declared.answer.Answer.{Answer}
 use Rattle.card.specs.declared.Settings.{Settings}
-use Rattle.card.specs.declared.Core.{Core}
 use Rattle.card.specs.declared.Card.{Card}
 use Rattle.card.specs.declared.done.Effect.{Effect}
 use Rattle.card.specs.declared.done.Effect.TheVariants.{Nothing, Store, Sweep, Protect, ForceErase}
@@ -21,12 +19,11 @@ use Rattle.card.specs.Protect.{whole}
 use Rattle.card.specs.Effects.{Stored, stored, affected}
 use Rattle.card.specs.Frame.{Turn}
 use Rattle.card.specs.Receive.{receive}
-use Rattle.card.specs.Step.{world, command_frame, answer, reply_of, wire, flagged, show, applies, FRAME, ROOM, frame_refusal, framed, step}
+use Rattle.card.specs.Step.{world, answer, reply_of, wire, flagged, show, applies, ROOM, frame_refusal}
 use Rattle.card.proofs.Facts.{facts-sound}
 use Rattle.card.proofs.Extent.{Inside}
 use Rattle.card.proofs.Frames.{receive-lasting}
-use Rattle.card_call.specs.declared.Stepped.{Stepped}
-use Rattle.card_call.specs.Seen.{Seen, returned, seen, stepped}
+use Rattle.card_call.specs.Seen.{returned, seen}
 use Rattle.card_respond.specs.Sent.{message, Responded, responded, on_line}
 use Rattle.card_effect.specs.Apply.{reaches}
 use Rattle.card_turn.specs.declared.Turned.{Turned}

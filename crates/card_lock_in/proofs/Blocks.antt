@@ -17,7 +17,7 @@ use Rattle.card.specs.Record.{with_state, with_marks}
 use Rattle.card.specs.Status.{LOCK_UNLOCK_FAILED}
 use Rattle.card.specs.Protect.{whole}
 use Rattle.card.specs.Execute.{raise}
-use Rattle.card.specs.Effects.{Stored, stored, affected}
+use Rattle.card.specs.Effects.{stored, affected}
 use Rattle.card.specs.Lock.{operation}
 use Rattle.card.specs.Frame.{Turn, token, said}
 use Rattle.card.specs.Data.{ACCEPTED, acted, effect_of, operate}
@@ -27,7 +27,7 @@ use Rattle.card_call.proofs.Turns as Turns
 use Rattle.card_effect.specs.Apply.{reaches}
 use Rattle.card_lock.specs.declared.Relocked.{Relocked}
 use Rattle.card_lock.specs.Relock.{relocked}
-use Rattle.card_lock_in.specs.Operates.{performed, succeeded, password_after, turn_after, operated}
+use Rattle.card_lock_in.specs.Operates.{performed, succeeded, password_after, operated}
 
 -- no operation needs more memory than there is
 reached : (o : Operation) (n : ℕ) → reaches (effect_of o) 0 n ≡ true

@@ -2,7 +2,7 @@
 use Rattle.std.proofs.Common.{◌≡◌, ℕ, ◌/◌, ◌%◌, ◌^◌, ◌<◌, ◌≤◌, Bool, true, eqb, List, [], ◌∷◌, ◌++◌, length, drop, set, sym, refl, ap, ◌∙◌, ap₂, arith, le-ltb, lt-ltb, eq-eqb}
 use native.Mathlib.Nat.{mod-mod}
 use lib.Pow.{mod-mod-pow}
-use Rattle.crc.specs.Bits.{bits, number, bytes, Bytes}
+use Rattle.crc.specs.Bits.{bits, number, bytes}
 use Rattle.crc.proofs.Bits.{bits_cong}
 use Rattle.codec.specs.declared.Encoded.{Encoded}
 use Rattle.codec.specs.Answer.{Encoding, encoding, encoded, emit, done}

@@ -12,7 +12,6 @@ use Rattle.card.specs.Settings.{cid_bytes, csd_bytes}
 use Rattle.card.specs.Frame as Frame
 use Rattle.card.specs.Step as Step
 use Rattle.card.specs.Step.{Reply, answer, wire, reply_of, ROOM}
-use Rattle.card_respond.specs.declared.Behind as Behind
 use Rattle.card_respond.specs.declared.Behind.{Behind}
 use Rattle.card_respond.specs.declared.Behind.TheVariants.{Second, Word}
 use Rattle.card_respond.specs.declared.Message.{Message}

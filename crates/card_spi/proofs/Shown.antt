@@ -20,7 +20,7 @@ use Rattle.card.specs.declared.done.Verdict.TheVariants.{NotAllowed, OtherCard, 
 use Rattle.card.specs.Record.{with_kept, with_app}
 use Rattle.card.specs.Status.{join}
 use Rattle.card.specs.Table.{row, sets_app}
-use Rattle.card.specs.Frame.{spi_r1, plain, Turn, quiet, said}
+use Rattle.card.specs.Frame.{spi_r1, plain, quiet, said}
 use Rattle.card.specs.Spi.{ILLEGAL_COMMAND, r1_byte, r2_byte, in_idle, sends_r2, behind_r1, unread, finish_spi, error_r1}
 use Rattle.card.specs.Receive.{show_spi}
 use Rattle.card_respond.specs.declared.Behind.{Behind}

@@ -2,7 +2,7 @@
 use mathlib.Core.Path.{◌≡◌, refl, sym, ap, ap₂, ◌∙◌}
 use mathlib.Core.Bool.{Bool, true, false, cond}
 use mathlib.Core.List.{List, ◌++◌}
-use Prim.Native.Nat.{ℕ, ◌+◌, ◌≤◌}
+use Prim.Native.Nat.{ℕ, ◌≤◌}
 use native.Mathlib.Omega.{arith}
 use lib.ListN.{length}
 use Rattle.crc.specs.Bits.{bytes}
@@ -10,7 +10,6 @@ use Rattle.crc.proofs.Bits.{length-bytes}
 use Rattle.codec.specs.Answer.{emit}
 use Rattle.wire_packet.specs.Packet.{packet}
 use Rattle.card.specs.declared.State.{State}
-use Rattle.card.specs.declared.Core.{Core}
 use Rattle.card.specs.declared.Card.{Card}
 use Rattle.card.specs.Settings.{BLOCK}
 use Rattle.card.specs.Record.{with_state}

@@ -1,6 +1,6 @@
 -- What the rows of a take that do not apply tell.
 use mathlib.Core.Path.{◌≡◌, refl, ap}
-use mathlib.Core.Bool.{Bool, true, false, cond, not}
+use mathlib.Core.Bool.{Bool, true, false, cond}
 use mathlib.Core.List.{List, [], ◌∷◌}
 use mathlib.Core.Option.{none}
 use Prim.Native.Nat.{ℕ, ◌+◌, ◌*◌, ◌%◌, ◌<◌, ◌≤◌}
@@ -10,7 +10,6 @@ use denote.Enum.Declared.{tag_of}
 use borrow.Author.Tests.{ltb-false}
 use lib.Dec.{ltb}
 use lib.ListN.{length}
-use Rattle.card.specs.declared.Open as Open
 use Rattle.card.specs.declared.Open.{Open}
 use Rattle.card.specs.declared.Core.{Core}
 use Rattle.card.specs.declared.done.Flag.TheVariants.{Keep}

@@ -7,7 +7,7 @@ use native.Mathlib.Nat.{zero-mod, mod-eq_of_lt, add_comm, div-one, zero-min, min
 use native.Mathlib.Numerals.{add-one}
 use native.Mathlib.Omega.{arith}
 use lib.Bits.{bit_and, bit_or, and_mask}
-use lib.ListN.{length, get_or, take, drop, set, length-set, length-append, length-drop}
+use lib.ListN.{length, get_or, take, drop, set, length-set}
 use lib.Pow.{mod-mod-pow, shr-shr}
 use lib.Seq.{take-suc, drop-cons, get_or-set_same, drop-set-lt, take_all, lt-length-set, drop-length, drop-nil, set_at, append_snoc, length-take-le}
 use Rattle.crc.specs.Bits.{bits, number, bits_of, bytes}

@@ -2,7 +2,7 @@
 use mathlib.Core.Path.{◌≡◌, refl, sym, ap, subst, ◌∙◌}
 use mathlib.Core.Bool.{Bool, true, false, cond, not, ◌&&◌, false≢true, and-eq-true_iff}
 use mathlib.Core.List.{List, [], ◌∷◌, ◌++◌}
-use mathlib.Core.Logic.{◌⊎◌, inl, inr}
+use mathlib.Core.Logic.{inl, inr}
 use Prim.Native.Nat.{ℕ, ◌+◌, ◌≤◌}
 use native.Mathlib.Omega.{arith}
 use borrow.Author.Tests.{leb-true, leb-false, le-leb}
@@ -25,11 +25,11 @@ use Rattle.host.specs.declared.Judgement.{Judgement}
 use Rattle.host.specs.declared.Judgement.TheVariants.{Expected, Busy, Unexpected}
 use Rattle.host.specs.Sequence.{VOLTAGE, PATTERN, SD_SEND_OP_COND, row}
 use Rattle.host.specs.Reply.{accepted, ready, echoed, judge}
-use Rattle.host.specs.Host.{Word, sent, selected, stopped, not_ready, Result, begin, UNSOUND, CLOSED, ROOM, unsound, end, frame, counted, sends, of_poll, goes, answered, hears, turns, step}
-use Rattle.host.specs.History.{Feed, fed, next, after, sent_by, frames, is_poll, polls_in, last_of, busy, LastPollBusy, Exactly, GivesUp}
+use Rattle.host.specs.Host.{Word, sent, selected, stopped, not_ready, Result, begin, UNSOUND, CLOSED, ROOM, unsound, end, counted, sends, of_poll, goes, answered, hears, turns, step}
+use Rattle.host.specs.History.{Feed, fed, next, after, sent_by, frames, is_poll, last_of, busy, LastPollBusy, GivesUp}
 use Rattle.host.proofs.Range.{InRange, in_range}
 use Rattle.host.proofs.Steps.{cond_elim, row-index, Due, Polls, Spent, Because, step-either}
-use Rattle.host.proofs.History.{sent-frame, poll-row, end_quiet, polls-counted}
+use Rattle.host.proofs.History.{sent-frame, poll-row, polls-counted}
 
 -- ---- a history's phase, its polls and the frame s that was sent last
 

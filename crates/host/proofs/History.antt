@@ -2,21 +2,20 @@
 use mathlib.Core.Path.{◌≡◌, refl, sym, ap, ap₂, subst, ◌∙◌}
 use mathlib.Core.Bool.{Bool, true, false, cond, ◌&&◌, ◌||◌, false≢true}
 use mathlib.Core.List.{List, [], ◌∷◌, ◌++◌}
-use Prim.Native.Nat.{ℕ, ◌+◌, ◌≤◌}
+use Prim.Native.Nat.{ℕ, ◌+◌}
 use native.Mathlib.Omega.{arith}
 use borrow.Author.Tests.{eq-eqb, ne_eqb, eqb-true, eqb-false, leb-false}
 use lib.Dec.{eqb, leb, ltb}
-use lib.ListN.{length, take, drop, get_or}
+use lib.ListN.{length}
 use lib.Seq.{take_at}
-use Rattle.codec.specs.Answer.{Outcome, done, refused}
+use Rattle.codec.specs.Answer.{done}
 use Rattle.host.specs.declared.Command.{Command}
-use Rattle.host.specs.declared.Command.TheVariants.{GoIdleState, SendIfCond, AppCmd, SdSendOpCond, AllSendCid, SendRelativeAddr, SendCsd, SelectCard}
 use Rattle.host.specs.declared.Phase.{Phase}
-use Rattle.host.specs.declared.Phase.TheVariants.{Start, Sent, Ended}
+use Rattle.host.specs.declared.Phase.TheVariants.{Ended}
 use Rattle.host.specs.declared.Found.{Found}
 use Rattle.host.specs.declared.Host.{Host}
 use Rattle.host.specs.Sequence.{APP_CMD, SD_SEND_OP_COND, row}
-use Rattle.host.specs.Host.{Word, sent, selected, stopped, not_ready, Result, begin, ROOM, unsound, refuse, end, frame, counted, sends, of_poll, turns, step}
+use Rattle.host.specs.Host.{Word, sent, selected, stopped, not_ready, Result, begin, ROOM, unsound, end, frame, counted, sends, of_poll, turns, step}
 use Rattle.host.specs.History.{Feed, fed, next, after, sent_by, frames, is_poll, polls_in, PollsCounted, is_end, ended, Over, QuietAfterEnd, KeepsSound}
 use Rattle.host.proofs.Range.{InRange, in_range, range_sound}
 use Rattle.host.proofs.Steps.{cond_elim, first_byte, step-either}

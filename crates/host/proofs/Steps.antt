@@ -2,13 +2,12 @@
 use mathlib.Core.Path.{◌≡◌, refl, sym, ap, subst, ◌∙◌}
 use mathlib.Core.Bool.{Bool, true, false, cond, ◌&&◌, and-eq-true_iff}
 use mathlib.Core.Logic.{◌⊎◌, inl, inr}
-use mathlib.Core.List.{List, [], ◌∷◌, ◌++◌}
+use mathlib.Core.List.{List}
 use Prim.Native.Nat.{ℕ, ◌+◌}
-use lib.Dec.{eqb, leb, ltb}
-use lib.ListN.{length, take, drop, get_or}
-use lib.Seq.{take_at}
+use lib.Dec.{leb, ltb}
+use lib.ListN.{length, get_or}
 use Rattle.crc.specs.Bits.{bits, number, bytes}
-use Rattle.codec.specs.Answer.{Outcome, done, refused, BUFFER}
+use Rattle.codec.specs.Answer.{done, BUFFER}
 use Rattle.codec.specs.Layout.{write}
 use Rattle.codec.specs.Format.{image, ended}
 use Rattle.host.specs.declared.Command.{Command}
@@ -24,7 +23,7 @@ use Rattle.host.specs.declared.Judgement.TheVariants.{Expected, Busy, Unexpected
 use Rattle.host.specs.declared.Row.{Row}
 use Rattle.host.specs.Sequence.{row}
 use Rattle.host.specs.Reply.{judge, learn}
-use Rattle.host.specs.Host.{Word, sent, selected, stopped, not_ready, Result, UNSOUND, CLOSED, ROOM, unsound, refuse, end, frame, counted, sends, of_poll, goes, follows, answered, hears, turns, step}
+use Rattle.host.specs.Host.{Word, sent, selected, stopped, not_ready, Result, UNSOUND, CLOSED, ROOM, unsound, refuse, end, frame, sends, of_poll, goes, follows, answered, hears, turns, step}
 use Rattle.host.specs.History.{is_end}
 
 pub cond_elim : {A : Type 0} (P : A → Type 0) (b : Bool) {x y : A} → (b ≡ true → P x) → (b ≡ false → P y) → P (cond b x y)

@@ -10,15 +10,12 @@ use Rattle.host.specs.declared.Phase.TheVariants.{Start, Sent, Ended}
 use Rattle.host.specs.declared.Found.{Found}
 use Rattle.host.specs.declared.Host.{Host}
 use Rattle.host.specs.declared.Reason.{Reason}
-use Rattle.host.specs.declared.Answer as Answer
 use Rattle.host.specs.declared.Answer.{Answer}
 use Rattle.host.specs.declared.Answer.TheVariants.{Selected, Stopped, NotReady}
 use Rattle.host.specs.declared.Stepped.{Stepped}
-use Rattle.host.specs.declared.Beginning as Beginning
 use Rattle.host.specs.declared.Beginning.{Beginning}
 use Rattle.host.specs.declared.Beginning.TheVariants.{Begun}
 use Rattle.host.specs.declared.Started.{Started}
-use Rattle.host.specs.declared.Next as Next
 use Rattle.host.specs.declared.Next.{Next}
 use Rattle.host.specs.declared.Next.TheVariants.{Send}
 use Rattle.host.specs.declared.Row.{Row}

@@ -7,7 +7,7 @@ use Rattle.host.specs.declared.Command.TheVariants.{GoIdleState, SendIfCond, App
 use Rattle.host.specs.declared.Reason.{Reason}
 use Rattle.host.specs.declared.Reason.TheVariants.{Refused, Heard, Echo}
 use Rattle.host.specs.declared.Host.{Host}
-use Rattle.host.specs.Host.{Word, sent, selected, stopped, not_ready, Result, begin, step}
+use Rattle.host.specs.Host.{Word, sent, selected, stopped, not_ready, begin, step}
 
 -- what a step says: the next frame as a number; an end, with the polls; the number of a refusal
 pub data Says : Type 0 where

@@ -1,5 +1,5 @@
 -- A decoder's answer x to a reply, whose outcome is o: its fields, or its number n.
-use mathlib.Core.Path.{◌≡◌, refl, sym, ap, ◌∙◌}
+use mathlib.Core.Path.{◌≡◌, sym, ap, ◌∙◌}
 use mathlib.Core.List.{List}
 use Prim.Native.Nat.{ℕ}
 use Rattle.codec.specs.Answer.{Outcome, done, refused, why}
@@ -7,7 +7,6 @@ use Rattle.host.specs.declared.Found.{Found}
 use Rattle.host.specs.declared.Reason.TheVariants.{Refused}
 use Rattle.host.specs.declared.Judgement.{Judgement}
 use Rattle.host.specs.declared.Judgement.TheVariants.{Unexpected}
-use Rattle.host.specs.declared.Heard.{Heard}
 use Rattle.host.specs.Reply.{accepted, told}
 
 module _ {o x : Outcome (List ℕ)} (e : x ≡ o) where

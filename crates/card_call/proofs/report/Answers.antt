@@ -1,6 +1,5 @@
 -- The encoder's answer, case by case.
 use mathlib.Core.Path.{sym, ap}
-use borrow.Author.Rules.{rules}
 use Rattle.codec.specs.declared.Encoded.{Encoded}
 use Rattle.codec.specs.Answer.{encoded}
 use Rattle.card_call.specs.Replied.{replied}

@@ -1,6 +1,5 @@
 -- Refused, or what the frame comes to.
 use mathlib.Core.Path.{ap, ◌∙◌}
-use borrow.Author.Rules.{rules}
 use Rattle.card.specs.Frame.{Turn}
 use Rattle.card.specs.Step.{world, show, step, framed}
 use Rattle.card_call.specs.Seen.{seen}

@@ -1,5 +1,4 @@
 -- Memory and marks, the buffer and the line.
-use borrow.Author.Rules.{rules}
 use Rattle.card_command.proofs.Calls.{shown}
 use Rattle.card_command.proofs.show.Goals as goal
 

@@ -1,5 +1,4 @@
 -- Each effect by its own function.
-use borrow.Author.Rules.{rules}
 use Rattle.card.specs.Effects.{affected}
 use Rattle.card_effect.proofs.Did.{did_store, did_sweep, did_mark, did_force}
 use Rattle.card_effect.proofs.apply.Goals as goal

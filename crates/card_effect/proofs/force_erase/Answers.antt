@@ -1,6 +1,5 @@
 -- Memory and marks, each zeroed to its end.
 use mathlib.Core.Path.{refl, ap₂}
-use borrow.Author.Rules.{rules}
 use Rattle.card.specs.Effects.{stored}
 use Rattle.card_effect.proofs.Sweeps.{zero_all}
 use Rattle.card_effect.proofs.force_erase.Goals as goal

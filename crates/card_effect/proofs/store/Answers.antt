@@ -1,6 +1,5 @@
 -- Where memory has room, the part of it that is lent becomes the payload.
 use Prim.Native.Nat.{◌+◌}
-use borrow.Author.Rules.{rules}
 use borrow.Author.Tests.{le-leb, lt-leb}
 use lib.ListN.{length}
 use Rattle.card_effect.proofs.Sweeps.{stored-part}

@@ -1,13 +1,9 @@
 -- Block after block: at the loop's head, sweeping the blocks left of memory as it is gives the whole sweep.
-use mathlib.Core.Path.{◌≡◌, refl, sym, ap, ◌∙◌}
-use Prim.Native.Nat.{ℕ, ◌+◌, ◌-◌, ◌*◌, ◌≤◌}
-use native.Mathlib.Omega.{arith}
-use borrow.Author.Rules.{rules}
-use borrow.Author.Tests.{le-leb, lt-leb}
+use mathlib.Core.Path.{◌≡◌}
+use Prim.Native.Nat.{◌+◌, ◌-◌, ◌*◌, ◌≤◌}
 use lib.ListN.{length}
 use Rattle.card.specs.Settings.{BLOCK}
 use Rattle.card.specs.Effects.{swept}
-use Rattle.card_effect.proofs.Sweeps.{swept-more, swept-end}
 use Rattle.card_effect.proofs.sweep.Given as goal
 
 abbrev pub invariant-loop-block : goal.invariant-loop-block

@@ -1,7 +1,6 @@
 -- One block is kept, or its part of memory zeroed.
 use mathlib.Core.Path.{ap, ◌∙◌}
 use mathlib.Core.Bool.{Bool, cond}
-use borrow.Author.Rules.{rules}
 use Rattle.card.specs.Settings.{BLOCK}
 use Rattle.card_effect.proofs.Sweeps.{swept-part}
 use Rattle.card_effect.proofs.sweep_block.Goals as goal

@@ -1,11 +1,8 @@
 -- Bytes are zeroed from the front: at the loop's head the first `i` are.
-use mathlib.Core.Path.{◌≡◌, refl, ap, ◌∙◌}
-use mathlib.Core.List.{List}
-use Prim.Native.Nat.{ℕ, ◌-◌, ◌≤◌}
-use native.Mathlib.Omega.{arith}
-use lib.ListN.{length, set, length-set}
+use mathlib.Core.Path.{◌≡◌}
+use Prim.Native.Nat.{◌-◌, ◌≤◌}
+use lib.ListN.{length}
 use Rattle.card_effect.specs.Apply.{zeroed}
-use Rattle.card_effect.proofs.Sweeps.{zero_more}
 use Rattle.card_effect.proofs.zero.Given as goal
 
 abbrev pub invariant-loop-part : goal.invariant-loop-part

@@ -7,7 +7,6 @@ use Rattle.card.specs.declared.Core.{Core}
 use Rattle.card.specs.declared.done.Response.TheVariants.{R1}
 use Rattle.card.specs.Record.{address}
 use Rattle.card.specs.Execute.{ran, drop_erase, erased, erase}
-use borrow.Author.Rules.{rules}
 use Rattle.card_erase.proofs.erase.Goals as goal
 
 pub returns-then-not-is_set : goal.returns-then-not-is_set

@@ -9,7 +9,6 @@ use Rattle.card.specs.Record.{is_set}
 use Rattle.card.specs.Checks.{first_failure, address_checks}
 use Rattle.card.specs.Execute.{ran, drop_erase, erase_end}
 use Rattle.card_start.specs.Outcome.{outcome}
-use borrow.Author.Rules.{rules}
 use Rattle.card_erase.proofs.erase_end.Goals as goal
 
 pub returns-then-not-is_set : goal.returns-then-not-is_set

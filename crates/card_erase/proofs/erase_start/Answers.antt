@@ -6,7 +6,6 @@ use Rattle.card.specs.declared.done.Response.TheVariants.{R1}
 use Rattle.card.specs.Checks.{first_failure, address_checks}
 use Rattle.card.specs.Execute.{ran, erase_start}
 use Rattle.card_start.specs.Outcome.{outcome}
-use borrow.Author.Rules.{rules}
 use Rattle.card_erase.proofs.erase_start.Goals as goal
 
 pub returns : goal.returns

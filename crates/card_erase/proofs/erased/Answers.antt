@@ -7,7 +7,6 @@ use Rattle.card.specs.declared.done.Done.{Done}
 use Rattle.card.specs.declared.done.Effect.TheVariants.{Sweep}
 use Rattle.card.specs.declared.done.Response.TheVariants.{R1}
 use Rattle.card.specs.Execute.{moved, drop_erase}
-use borrow.Author.Rules.{rules}
 use Rattle.card_erase.proofs.erased.Goals as goal
 
 pub returns : goal.returns

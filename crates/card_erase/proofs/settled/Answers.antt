@@ -1,7 +1,6 @@
 -- By the row, and by whether marks are pending.
 use mathlib.Core.Path.{sym, ap, ◌∙◌}
 use Rattle.card.specs.Execute.{drop_erase, settled}
-use borrow.Author.Rules.{rules}
 use Rattle.card_erase.proofs.settled.Goals as goal
 
 pub returns-then-keeps_erase : goal.returns-then-keeps_erase

@@ -1,6 +1,5 @@
 -- The core alone changes.
 use mathlib.Core.Path.{ap}
-use borrow.Author.Rules.{rules}
 use Rattle.card.specs.declared.Core.{Core}
 use Rattle.card.specs.declared.done.Done.{Done}
 use Rattle.card_finish.proofs.chosen.Goals as goal

@@ -4,7 +4,6 @@ use Rattle.card.specs.declared.Core.{Core}
 use Rattle.card.specs.declared.done.Response.{Response}
 use Rattle.card.specs.Record.{with_kept}
 use Rattle.card.specs.Frame.{cleared}
-use borrow.Author.Rules.{rules}
 use Rattle.card_finish.proofs.cleared.Goals as goal
 
 by : (c : Core) (r k : Response) → r ≡ k → cleared k c ≡ cleared r c

@@ -5,7 +5,6 @@ use Rattle.card.specs.declared.Core.{Core}
 use Rattle.card.specs.Record.{with_app}
 use Rattle.card.specs.Status.{status}
 use Rattle.card_finish.proofs.Finished.{finished}
-use borrow.Author.Rules.{rules}
 use Rattle.card_finish.proofs.finish.Goals as goal
 
 pub returns : goal.returns

@@ -6,7 +6,6 @@ use Rattle.card.specs.declared.done.Flag.TheVariants.{Keep}
 use Rattle.card.specs.Record.{with_app}
 use Rattle.card.specs.Frame.{quiet}
 use Rattle.card_finish.proofs.Finished.{not-allowed, other-card, ran}
-use borrow.Author.Rules.{rules}
 use Rattle.card_finish.proofs.show_sd.Goals as goal
 
 pub returns-in-NotAllowed : goal.returns-in-NotAllowed

@@ -4,7 +4,6 @@ use mathlib.Core.Bool.{◌&&◌}
 use Prim.Native.Nat.{ℕ}
 use borrow.Author.Rules.{rules}
 use lib.Dec.{eqb}
-use Rattle.card.specs.declared.done.Done.{Done}
 use Rattle.card.specs.Frame.{finish}
 use Rattle.card.specs.Spi.{finish_spi}
 use Rattle.card.specs.Receive.{chooses}

@@ -1,5 +1,5 @@
 -- By bit 0 of the argument.
-use Rattle.std.proofs.Common.{ℕ, eqb, ap, ◌∙◌, rules}
+use Rattle.std.proofs.Common.{ℕ, eqb, ap, ◌∙◌}
 use lib.Bits.{and_mask}
 use Rattle.card.specs.declared.Core.{Core}
 use Rattle.card.specs.declared.Mode.TheVariants.{Spi}

@@ -1,5 +1,5 @@
 -- One more, and 0 is skipped.
-use Rattle.std.proofs.Common.{◌≡◌, arith, rules, eq-eqb, ne_eqb}
+use Rattle.std.proofs.Common.{◌≡◌, arith, eq-eqb, ne_eqb}
 use Rattle.card_identify.proofs.next_rca.Goals as goal
 
 pub returns-then-next-eq0 : goal.returns-then-next-eq0

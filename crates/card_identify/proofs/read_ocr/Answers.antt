@@ -1,5 +1,5 @@
 -- By the number of the state.
-use Rattle.std.proofs.Common.{ℕ, not, eqb, ap, ◌∙◌, rules}
+use Rattle.std.proofs.Common.{ℕ, not, eqb, ap, ◌∙◌}
 use Rattle.card.specs.declared.done.Response.TheVariants.{R3}
 use Rattle.card.specs.Settings.{ocr_of}
 use Rattle.card.specs.State.{idle}

@@ -1,5 +1,5 @@
 -- By the mode.
-use Rattle.std.proofs.Common.{sym, ap, ◌∙◌, rules}
+use Rattle.std.proofs.Common.{sym, ap, ◌∙◌}
 use Rattle.card.specs.declared.Core.{Core}
 use Rattle.card.specs.declared.done.Response.TheVariants.{R1}
 use Rattle.card.specs.Execute.{ran, sd_send_op_cond}

@@ -1,5 +1,5 @@
 -- The voltage, and the pattern.
-use Rattle.std.proofs.Common.{ℕ, ◌∙◌, ap₂, rules}
+use Rattle.std.proofs.Common.{ℕ, ◌∙◌, ap₂}
 use lib.Bits.{and_mask, mask_lt}
 use Rattle.card.specs.declared.done.Response.TheVariants.{R7}
 use Rattle.card.specs.Execute.{ran}

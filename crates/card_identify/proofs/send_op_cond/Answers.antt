@@ -1,5 +1,5 @@
 -- The four answers of A41, in their order.
-use Rattle.std.proofs.Common.{ℕ, ap, ◌∙◌, ap₂, rules, eq-eqb, ne_eqb}
+use Rattle.std.proofs.Common.{ℕ, ap, ◌∙◌, ap₂, eq-eqb, ne_eqb}
 use Rattle.card.specs.declared.Core.{Core}
 use Rattle.card.specs.declared.done.Response.TheVariants.{Nothing, R3}
 use Rattle.card.specs.Execute.{ran, send_op_cond}

@@ -1,5 +1,5 @@
 -- By the state, and the polls left.
-use Rattle.std.proofs.Common.{◌≡◌, ℕ, eqb, sym, ap, ◌∙◌, arith, rules, eq-eqb, ne_eqb}
+use Rattle.std.proofs.Common.{◌≡◌, ℕ, eqb, sym, ap, ◌∙◌, arith, eq-eqb, ne_eqb}
 use Rattle.card.specs.State.{idle}
 use Rattle.card.specs.Execute.{send_op_cond_spi}
 use Rattle.card_identify.proofs.send_op_cond_spi.Goals as goal

@@ -1,5 +1,5 @@
 -- The next address, and the move.
-use Rattle.std.proofs.Common.{ap, ◌∙◌, rules}
+use Rattle.std.proofs.Common.{ap, ◌∙◌}
 use Rattle.card.specs.declared.Core.{Core}
 use Rattle.card.specs.declared.command.Command.TheVariants.{SendRelativeAddr}
 use Rattle.card.specs.declared.done.Response.TheVariants.{R6}

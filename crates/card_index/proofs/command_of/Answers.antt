@@ -1,5 +1,4 @@
 -- The A rows first after 55, the plain rows else.
-use borrow.Author.Rules.{rules}
 use Rattle.card_index.proofs.Found.{found_by}
 use Rattle.card_index.proofs.command_of.Goals as goal
 

@@ -1,10 +1,7 @@
 -- The loop leaves at the first command that fits: at its head, the rest of the list gives what the whole does.
-use mathlib.Core.Path.{◌≡◌, refl, sym, ◌∙◌}
-use Prim.Native.Nat.{◌-◌, ◌≤◌}
+use mathlib.Core.Path.{refl, sym, ◌∙◌}
 use native.Mathlib.Omega.{arith}
-use borrow.Author.Rules.{rules}
-use lib.ListN.{drop}
-use Rattle.card.specs.Table.{commands, find}
+use Rattle.card.specs.Table.{commands}
 use Rattle.card_index.proofs.Found.{find-one, find-next, find-end}
 use Rattle.card_index.proofs.find.Goals as goal
 

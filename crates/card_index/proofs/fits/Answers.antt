@@ -1,7 +1,6 @@
 -- Index, kind and RCA, in the order of the definition.
 use mathlib.Core.Path.{sym, ap, ◌∙◌}
 use mathlib.Core.Bool.{Bool, beq}
-use borrow.Author.Rules.{rules}
 use borrow.Author.Tests.{eq-eqb, ne_eqb}
 use Rattle.card_index.proofs.Found.{fits_by}
 use Rattle.card_index.proofs.fits.Goals as goal

@@ -2,7 +2,6 @@
 use mathlib.Core.Path.{ap}
 use mathlib.Core.Bool.{Bool, ◌||◌}
 use Prim.Native.Nat.{◌/◌, ◌^◌}
-use borrow.Author.Rules.{rules}
 use lib.Dec.{eqb}
 use Rattle.card.specs.Table.{own}
 use Rattle.card_index.proofs.own.Goals as goal

@@ -1,6 +1,5 @@
 -- By the operation.
 use mathlib.Core.Path.{ap, ◌∙◌}
-use borrow.Author.Rules.{rules}
 use lib.ListN.{drop}
 use Rattle.card.specs.Lock.{password_data, changed}
 use Rattle.card_password.proofs.Stored.{whole}

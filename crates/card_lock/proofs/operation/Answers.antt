@@ -1,6 +1,5 @@
 -- The bits of the first byte.
 use mathlib.Core.Path.{ap, ◌∙◌}
-use borrow.Author.Rules.{rules}
 use Rattle.card.specs.Lock.{operation_of}
 use Rattle.card_lock.proofs.operation.Goals as goal
 

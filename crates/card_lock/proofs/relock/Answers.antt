@@ -1,6 +1,5 @@
 -- It succeeds, and the password is changed, or nothing is.
-use mathlib.Core.Path.{sym, ap, ◌∙◌}
-use borrow.Author.Rules.{rules}
+use mathlib.Core.Path.{sym, ◌∙◌}
 use Rattle.card_lock.proofs.Fits.{room}
 use Rattle.card_lock.proofs.relock.Goals as goal
 

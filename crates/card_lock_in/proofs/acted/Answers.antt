@@ -1,5 +1,4 @@
 -- By the operation.
-use borrow.Author.Rules.{rules}
 use Rattle.card_lock_in.proofs.acted.Goals as goal
 
 pub returns-in-ForceErase : goal.returns-in-ForceErase

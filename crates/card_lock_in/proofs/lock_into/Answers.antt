@@ -1,7 +1,6 @@
 -- On to its operation, or a wrong check.
 use mathlib.Core.Path.{refl, sym, ap, ◌∙◌}
 use mathlib.Core.Bool.{Bool}
-use borrow.Author.Rules.{rules}
 use Rattle.card.specs.Data.{lock_into, password_into}
 use Rattle.card_call.proofs.Turns as Turns
 use Rattle.card_lock_in.specs.Operates.{lock_turned}

@@ -3,7 +3,6 @@ use mathlib.Core.Path.{ap, ◌∙◌}
 use Rattle.card.specs.declared.State.TheVariants.{Prg}
 use Rattle.card.specs.declared.Core.{Core}
 use Rattle.card.specs.Record.{with_state}
-use borrow.Author.Rules.{rules}
 use Rattle.card_lock_in.proofs.Blocks.{succeeds_as, fails_as}
 use Rattle.card_lock_in.proofs.operate.Goals as goal
 

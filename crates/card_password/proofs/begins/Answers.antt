@@ -1,6 +1,5 @@
 -- As many bytes of the data as the password has, and the password's.
 use mathlib.Core.Path.{ap₂, ◌∙◌}
-use borrow.Author.Rules.{rules}
 use Rattle.card.specs.Soundness.{equal}
 use Rattle.card_password.proofs.begins.Goals as goal
 

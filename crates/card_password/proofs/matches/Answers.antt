@@ -1,5 +1,4 @@
 -- The password, and the data as long.
-use borrow.Author.Rules.{rules}
 use Rattle.card.specs.Lock.{matches}
 use Rattle.card_password.proofs.matches.Goals as goal
 

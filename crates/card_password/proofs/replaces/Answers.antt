@@ -1,5 +1,4 @@
 -- The password, and the data longer by 1 to 16.
-use borrow.Author.Rules.{rules}
 use Rattle.card.specs.Lock.{replaces}
 use Rattle.card_password.proofs.replaces.Goals as goal
 

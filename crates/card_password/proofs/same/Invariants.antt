@@ -1,12 +1,9 @@
 -- `same` compares element by element: at the loop's head, the whole is equal where what was looked at was right and what is left is equal.
-use mathlib.Core.Path.{◌≡◌, refl, sym}
+use mathlib.Core.Path.{◌≡◌}
 use mathlib.Core.Bool.{◌&&◌}
 use Prim.Native.Nat.{◌-◌, ◌≤◌}
-use native.Mathlib.Omega.{arith}
-use borrow.Author.Rules.{rules}
 use lib.ListN.{length, drop}
 use Rattle.card.specs.Soundness.{equal}
-use Rattle.card_password.proofs.Equal.{lengths_differ, right-more, right_end}
 use Rattle.card_password.proofs.same.Given as goal
 
 abbrev pub invariant-loop-i : goal.invariant-loop-i

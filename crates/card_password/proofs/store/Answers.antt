@@ -1,6 +1,5 @@
 -- The bytes are copied to the front of zeros.
 use native.Mathlib.Omega.{arith}
-use borrow.Author.Rules.{rules}
 use lib.ListN.{length-take}
 use Rattle.card_password.proofs.Stored.{first_in_front}
 use Rattle.card_password.proofs.store.Goals as goal

@@ -1,5 +1,4 @@
 -- The record of a power-up, part by part.
-use borrow.Author.Rules.{rules}
 use Rattle.card.specs.Step.{fresh}
 use Rattle.card_power.proofs.fresh.Goals as goal
 

@@ -6,7 +6,6 @@ use Rattle.card.specs.declared.Password.{Password}
 use Rattle.card.specs.declared.Card.{Card}
 use Rattle.card.specs.Lock.{is_set}
 use Rattle.card.specs.Step.{fresh, line, start}
-use borrow.Author.Rules.{rules}
 use Rattle.card_power.proofs.start.Goals as goal
 
 pub returns : goal.returns

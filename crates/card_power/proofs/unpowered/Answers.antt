@@ -1,7 +1,5 @@
 -- The start of a card of no blocks, with no password.
 use mathlib.Core.Path.{ap, ◌∙◌}
-use borrow.Author.Rules.{rules}
-use Rattle.card.specs.declared.Password.{Password}
 use Rattle.card.specs.Step.{NO_CARD, start}
 use Rattle.card_power.proofs.unpowered.Goals as goal
 

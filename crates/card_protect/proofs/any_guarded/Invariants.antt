@@ -1,10 +1,7 @@
 -- The loop leaves at the first protected block: at its head, the answer is that of the blocks left.
-use mathlib.Core.Path.{◌≡◌, refl, sym, ap, ◌∙◌}
+use mathlib.Core.Path.{◌≡◌}
 use Prim.Native.Nat.{◌+◌, ◌-◌, ◌≤◌}
-use native.Mathlib.Omega.{arith}
-use borrow.Author.Rules.{rules}
 use Rattle.card.specs.Protect.{any_guarded}
-use Rattle.card_protect.proofs.Blocks.{any_one, any_none, any_end}
 use Rattle.card_protect.proofs.any_guarded.Given as goal
 
 abbrev pub invariant-loop-block : goal.invariant-loop-block

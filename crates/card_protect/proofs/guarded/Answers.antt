@@ -1,6 +1,5 @@
 -- With the whole card, or by the mark of its group.
 use mathlib.Core.Path.{ap, ◌∙◌}
-use borrow.Author.Rules.{rules}
 use Rattle.card.specs.Protect.{guarded, marked}
 use Rattle.card_protect.proofs.guarded.Goals as goal
 

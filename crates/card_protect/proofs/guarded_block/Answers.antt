@@ -2,7 +2,6 @@
 use mathlib.Core.Path.{◌≡◌, ap, ◌∙◌}
 use Prim.Native.Nat.{◌*◌, ◌/◌}
 use native.Mathlib.Omega.{arith}
-use borrow.Author.Rules.{rules}
 use Rattle.card.specs.Settings.{BLOCK, GROUP}
 use Rattle.card.specs.Protect.{guarded, marked}
 use Rattle.card_protect.proofs.guarded_block.Goals as goal

@@ -4,7 +4,6 @@ use Prim.Native.Nat.{◌/◌}
 use lib.ListN.{set, length-set}
 use lib.Seq.{set_out}
 use native.Mathlib.Omega.{arith}
-use borrow.Author.Rules.{rules}
 use Rattle.card.specs.Protect.{mark}
 use Rattle.card_protect.proofs.mark.Goals as goal
 

@@ -1,12 +1,7 @@
 -- The marks are read from the highest group down: at the loop's head, the bits read and those left are all.
-use mathlib.Core.Path.{◌≡◌, refl}
-use mathlib.Core.List.{◌++◌}
-use Prim.Native.Nat.{◌+◌, ◌-◌, ◌/◌, ◌≤◌}
+use mathlib.Core.Path.{refl}
 use native.Mathlib.Omega.{arith}
-use borrow.Author.Rules.{rules}
 use Rattle.crc.specs.Bits.{bits}
-use Rattle.card.specs.Settings.{GROUP}
-use Rattle.card.specs.Protect.{group_of, mark_bits}
 use Rattle.card_protect.proofs.Words.{word_more, word_all}
 use Rattle.card_protect.proofs.mark_word.Goals as goal
 

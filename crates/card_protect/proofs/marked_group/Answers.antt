@@ -1,5 +1,4 @@
 -- The mark of a group; behind the marks there is none.
-use borrow.Author.Rules.{rules}
 use native.Mathlib.Omega.{arith}
 use Rattle.card_protect.proofs.Marks.{past-marks}
 use Rattle.card_protect.proofs.marked_group.Goals as goal

@@ -2,7 +2,6 @@
 use mathlib.Core.Path.{sym, ap, ◌∙◌}
 use mathlib.Core.Bool.{Bool, not}
 use Rattle.card.specs.Protect.{put_bit}
-use borrow.Author.Rules.{rules}
 use Rattle.card_protect.proofs.Marks.{put_same, put-flipped, beq_same, beq-other}
 use Rattle.card_protect.proofs.put_bit.Goals as goal
 

@@ -1,5 +1,4 @@
 -- A group that the card has, with its mark.
-use borrow.Author.Rules.{rules}
 use borrow.Author.Tests.{le-ltb, lt-ltb}
 use Rattle.card_protect.proofs.shown.Goals as goal
 

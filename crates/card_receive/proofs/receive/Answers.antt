@@ -1,6 +1,5 @@
 -- By the mode.
 use mathlib.Core.Path.{sym, ◌∙◌}
-use borrow.Author.Rules.{rules}
 use Rattle.card_receive.proofs.Received.{in_sd, in_spi_lem}
 use Rattle.card_receive.proofs.receive.Goals as goal
 

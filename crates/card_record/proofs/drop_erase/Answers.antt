@@ -1,7 +1,6 @@
 -- The erase marks go.
 use mathlib.Core.Path.{ap, ◌∙◌}
 use Rattle.card.specs.Record.{with_erase}
-use borrow.Author.Rules.{rules}
 use Rattle.card_record.proofs.drop_erase.Goals as goal
 
 pub returns : goal.returns

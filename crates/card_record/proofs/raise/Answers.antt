@@ -2,7 +2,6 @@
 use mathlib.Core.Path.{ap, ◌∙◌}
 use Rattle.card.specs.Record.{with_kept}
 use Rattle.card.specs.Status.{join}
-use borrow.Author.Rules.{rules}
 use Rattle.card_record.proofs.raise.Goals as goal
 
 pub returns : goal.returns

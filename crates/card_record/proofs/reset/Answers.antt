@@ -1,5 +1,4 @@
 -- Part after part.
-use borrow.Author.Rules.{rules}
 use Rattle.card_record.proofs.reset.Goals as goal
 
 pub returns : goal.returns

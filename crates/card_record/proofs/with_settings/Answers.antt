@@ -1,6 +1,5 @@
 -- The settings, and the CSD that `csd_of` gave.
 use mathlib.Core.Path.{ap}
-use borrow.Author.Rules.{rules}
 use Rattle.reg_csd.specs.declared.Csd.{Csd}
 use Rattle.card.specs.declared.Core.{Core}
 use Rattle.card_record.proofs.with_settings.Goals as goal

@@ -1,5 +1,4 @@
 -- Row by row.
-use borrow.Author.Rules.{rules}
 use borrow.Author.Tests.{ne_eqb}
 use Rattle.card.specs.Step.{applies}
 use Rattle.card_refuse.proofs.applies.Goals as goal

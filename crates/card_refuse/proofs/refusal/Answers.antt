@@ -1,10 +1,6 @@
 -- At the loop's head, the rows that are left give the refusal of all.
-use mathlib.Core.Path.{◌≡◌, refl, sym, ◌∙◌}
-use Prim.Native.Nat.{◌-◌, ◌≤◌}
+use mathlib.Core.Path.{refl, sym, ◌∙◌}
 use native.Mathlib.Omega.{arith}
-use borrow.Author.Rules.{rules}
-use lib.ListN.{length, drop}
-use Rattle.card.specs.Step.{refusal}
 use Rattle.card_refuse.proofs.Walk.{row-applies, row-passes, rows-over}
 use Rattle.card_refuse.proofs.refusal.Goals as goal
 

@@ -1,5 +1,4 @@
 -- The record's row and memory's, as the model has them.
-use borrow.Author.Rules.{rules}
 use Rattle.card_refuse.proofs.rows.Goals as goal
 
 pub returns : goal.returns

@@ -1,5 +1,5 @@
 -- By the mode.
-use Rattle.std.proofs.Common.{ℕ, ◌∷◌, sym, refl, ap, rules}
+use Rattle.std.proofs.Common.{ℕ, ◌∷◌, sym, refl, ap}
 use Rattle.card.specs.Frame as Frame
 use Rattle.card.specs.Step.{wire, reply_of}
 use Rattle.card_respond.specs.Sent.{message, behind}

@@ -1,5 +1,5 @@
 -- Each response is its own.
-use Rattle.std.proofs.Common.{sym, refl, ap, ◌∙◌, rules, eq-eqb, ne_eqb}
+use Rattle.std.proofs.Common.{sym, refl, ap, ◌∙◌, eq-eqb, ne_eqb}
 use Rattle.wire_response.specs.Response.{r2_bytes}
 use Rattle.card.specs.Frame as Frame
 use Rattle.card.specs.Step.{wire, reply_of}

@@ -1,5 +1,5 @@
 -- Too small a buffer, or the message.
-use Rattle.std.proofs.Common.{length, ap₂, arith, rules, le-ltb, lt-ltb}
+use Rattle.std.proofs.Common.{length, ap₂, arith, le-ltb, lt-ltb}
 use Rattle.card_respond.specs.Sent.{responded, on_line}
 use Rattle.card_respond.proofs.respond.Goals as goal
 

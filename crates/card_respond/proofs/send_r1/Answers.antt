@@ -1,5 +1,5 @@
 -- Index and status are cut to their fields, as the format cuts them.
-use Rattle.std.proofs.Common.{ℕ, [], ◌∷◌, ◌∙◌, ap₂, arith, rules}
+use Rattle.std.proofs.Common.{ℕ, [], ◌∷◌, ◌∙◌, ap₂, arith}
 use lib.Bits.{and_mask, mask_lt}
 use Rattle.codec.specs.Format.{image}
 use Rattle.wire_response.specs.Response.{r1}

@@ -1,5 +1,5 @@
 -- The OCR is a whole word.
-use Rattle.std.proofs.Common.{refl, rules}
+use Rattle.std.proofs.Common.{refl}
 use Rattle.card_respond.proofs.Sending.{sends, fits-r3}
 use Rattle.card_respond.proofs.send_r3.Goals as goal
 

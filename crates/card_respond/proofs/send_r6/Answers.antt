@@ -1,5 +1,5 @@
 -- The short status of the status that is shown.
-use Rattle.std.proofs.Common.{ℕ, [], ◌∷◌, ap, ◌∙◌, arith, rules}
+use Rattle.std.proofs.Common.{ℕ, [], ◌∷◌, ap, ◌∙◌, arith}
 use Rattle.codec.specs.Format.{image}
 use Rattle.wire_response.specs.Response.{r6}
 use Rattle.wire_response.specs.Status.{short_status}

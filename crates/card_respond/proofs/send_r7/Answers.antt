@@ -1,5 +1,5 @@
 -- The voltage is cut to its field, as the format cuts it.
-use Rattle.std.proofs.Common.{ℕ, [], ◌∷◌, ap, ◌∙◌, rules}
+use Rattle.std.proofs.Common.{ℕ, [], ◌∷◌, ap, ◌∙◌}
 use lib.Bits.{and_mask, mask_lt}
 use Rattle.codec.specs.Format.{image}
 use Rattle.wire_response.specs.Response.{r7}

@@ -1,5 +1,5 @@
 -- Bit 23 is added, or not.
-use Rattle.std.proofs.Common.{arith, rules}
+use Rattle.std.proofs.Common.{arith}
 use Rattle.card_respond.proofs.shown.Goals as goal
 
 pub returns-then-crc : goal.returns-then-crc

@@ -1,5 +1,5 @@
 -- Bit 3 is added, or not.
-use Rattle.std.proofs.Common.{arith, rules}
+use Rattle.std.proofs.Common.{arith}
 use Rattle.card_respond.proofs.shown_r1.Goals as goal
 
 pub returns-then-crc : goal.returns-then-crc

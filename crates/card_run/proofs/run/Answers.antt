@@ -1,6 +1,5 @@
 -- The argument is the address that it means.
 use mathlib.Core.Path.{ap, ◌∙◌}
-use borrow.Author.Rules.{rules}
 use Rattle.card.specs.Execute.{run_at}
 use Rattle.card_run.proofs.run.Goals as goal
 

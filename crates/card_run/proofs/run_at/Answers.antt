@@ -1,6 +1,5 @@
 -- Each command is its own function.
 use mathlib.Core.Path.{ap, ◌∙◌}
-use borrow.Author.Rules.{rules}
 use Rattle.card.specs.declared.Core.{Core}
 use Rattle.card.specs.declared.done.Response.TheVariants.{Nothing}
 use Rattle.card.specs.Execute.{ran, run_at}

@@ -1,6 +1,5 @@
 -- The bit, and the held transfer.
 use mathlib.Core.Path.{refl, ap₂, ◌∙◌}
-use borrow.Author.Rules.{rules}
 use Rattle.card.specs.Record.{with_state}
 use Rattle.card_call.proofs.Turns.{silent}
 use Rattle.card_send.proofs.hold.Goals as goal

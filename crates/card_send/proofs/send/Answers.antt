@@ -1,7 +1,6 @@
 -- The encoder's answer, and the record.
 use mathlib.Core.Path.{ap, ◌∙◌}
 use mathlib.Core.Bool.{Bool}
-use borrow.Author.Rules.{rules}
 use Rattle.card_send.specs.Sending.{encode_block}
 use Rattle.card_send.proofs.Sent.{sent_as}
 use Rattle.card_send.proofs.send.Goals as goal

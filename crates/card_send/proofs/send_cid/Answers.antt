@@ -1,5 +1,4 @@
 -- The register.
-use borrow.Author.Rules.{rules}
 use Rattle.card_send.proofs.Sent.{same_as}
 use Rattle.card_send.proofs.send_cid.Goals as goal
 

@@ -1,5 +1,4 @@
 -- The payload as it is.
-use borrow.Author.Rules.{rules}
 use Rattle.card_send.proofs.send_scr.Goals as goal
 
 pub returns : goal.returns

@@ -1,5 +1,4 @@
 -- Four bytes, high byte first.
-use borrow.Author.Rules.{rules}
 use Rattle.card_send.proofs.Sent.{same_as}
 use Rattle.card_send.proofs.send_word.Goals as goal
 

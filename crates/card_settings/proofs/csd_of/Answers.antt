@@ -1,5 +1,4 @@
 -- `csd_of` takes the pair's parts into the CSD.
-use borrow.Author.Rules.{rules}
 use Rattle.card.specs.Settings.{csd_of}
 use Rattle.card_settings.proofs.csd_of.Goals as goal
 

@@ -1,5 +1,4 @@
 -- `unsound` makes the first five tests, then the others.
-use borrow.Author.Rules.{rules}
 use Rattle.card.specs.Soundness.{unsound, unsound_tests}
 use Rattle.card_sound.proofs.Tests.{first_holds, first-fails}
 use Rattle.card_sound.proofs.unsound.Goals as goal

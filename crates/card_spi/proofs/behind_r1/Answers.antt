@@ -2,7 +2,6 @@
 use mathlib.Core.Path.{sym, ap, ◌∙◌}
 use mathlib.Core.List.{[], ◌∷◌}
 use Prim.Native.Nat.{ℕ}
-use borrow.Author.Rules.{rules}
 use Rattle.card.specs.Spi.{behind_r1}
 use Rattle.card_spi.proofs.Shown.{behind_by, behind-r2, behind-none}
 use Rattle.card_spi.proofs.behind_r1.Goals as goal

@@ -1,5 +1,4 @@
 -- Two zero bytes, then those two.
-use borrow.Author.Rules.{rules}
 use Rattle.card_spi.proofs.Shown.{echoed}
 use Rattle.card_spi.proofs.echo.Goals as goal
 

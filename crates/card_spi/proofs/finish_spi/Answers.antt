@@ -1,7 +1,6 @@
 -- The record, R1 and what stands behind it, and the effect.
 use mathlib.Core.Path.{ap, ap₂, ◌∙◌}
 use mathlib.Core.Bool.{Bool}
-use borrow.Author.Rules.{rules}
 use Rattle.card.specs.declared.Kept.{Kept}
 use Rattle.card.specs.declared.Core.{Core}
 use Rattle.card.specs.Record.{with_kept, with_app}

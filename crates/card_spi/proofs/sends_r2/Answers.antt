@@ -1,7 +1,6 @@
 -- By the index.
 use mathlib.Core.Path.{ap}
 use Prim.Native.Nat.{ℕ}
-use borrow.Author.Rules.{rules}
 use lib.Dec.{eqb}
 use Rattle.card_spi.proofs.sends_r2.Goals as goal
 

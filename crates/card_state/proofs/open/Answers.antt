@@ -1,5 +1,4 @@
 -- State by state.
-use borrow.Author.Rules.{rules}
 use Rattle.card_state.proofs.open.Goals as goal
 
 pub returns-in-Data : goal.returns-in-Data

@@ -1,7 +1,6 @@
 -- The column of locked cards.
 use mathlib.Core.Path.{ap}
 use mathlib.Core.Bool.{not, ◌||◌}
-use borrow.Author.Rules.{rules}
 use Rattle.card.specs.Table.{accepts}
 use Rattle.card_table.specs.declared.Columns.{Columns}
 use Rattle.card_table.proofs.accepts.Goals as goal

@@ -1,5 +1,4 @@
 -- The state that the row leads to, or the same.
-use borrow.Author.Rules.{rules}
 use borrow.Author.Tests.{eq-eqb, ne_eqb}
 use Rattle.card_table.proofs.Rows.{after_by}
 use Rattle.card_table.proofs.after.Goals as goal

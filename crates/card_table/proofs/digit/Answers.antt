@@ -1,7 +1,6 @@
 -- A digit, by shift and mask.
 use Prim.Native.Nat.{◌*◌, ◌/◌, ◌^◌}
 use native.Mathlib.Omega.{arith}
-use borrow.Author.Rules.{rules}
 use lib.Bits.{and_mask, mask_lt}
 use Rattle.card_table.proofs.digit.Goals as goal
 

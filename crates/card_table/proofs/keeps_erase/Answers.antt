@@ -1,6 +1,5 @@
 -- The column of the erase marks.
 use mathlib.Core.Path.{ap}
-use borrow.Author.Rules.{rules}
 use Rattle.card_table.specs.declared.Columns.{Columns}
 use Rattle.card_table.proofs.keeps_erase.Goals as goal
 

@@ -1,7 +1,6 @@
 -- A digit of the row, in the column of the mode.
 use mathlib.Core.Path.{◌∙◌}
 use mathlib.Core.Bool.{true, false}
-use borrow.Author.Rules.{rules}
 use Rattle.card_table.proofs.Rows.{digit_in}
 use Rattle.card_table.proofs.lead.Goals as goal
 

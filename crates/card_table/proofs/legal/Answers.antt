@@ -1,5 +1,4 @@
 -- A command is allowed where its row has a move.
-use borrow.Author.Rules.{rules}
 use Rattle.card_table.proofs.Rows.{legal_by}
 use Rattle.card_table.proofs.legal.Goals as goal
 

@@ -1,6 +1,5 @@
 -- By the column of the RCA.
 use mathlib.Core.Path.{sym, ap, ◌∙◌}
-use borrow.Author.Rules.{rules}
 use Rattle.card_table.specs.declared.Columns.{Columns}
 use Rattle.card_table.proofs.misses.Goals as goal
 

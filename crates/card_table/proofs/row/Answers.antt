@@ -1,5 +1,4 @@
 -- Each row is right.
-use borrow.Author.Rules.{rules}
 use Rattle.card.specs.Table.{row, has, lead}
 use Rattle.card_table.specs.Packed.{lead_or, packed}
 use Rattle.card_table.proofs.row.Goals as goal

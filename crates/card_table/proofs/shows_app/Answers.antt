@@ -1,6 +1,5 @@
 -- By the column of the kind.
 use mathlib.Core.Path.{sym, ap, ◌∙◌}
-use borrow.Author.Rules.{rules}
 use Rattle.card.specs.Table.{shows_app}
 use Rattle.card_table.specs.declared.Columns.{Columns}
 use Rattle.card_table.proofs.shows_app.Goals as goal

@@ -1,6 +1,5 @@
 -- By the mode.
 use mathlib.Core.Path.{◌∙◌, sym}
-use borrow.Author.Rules.{rules}
 use Rattle.card.specs.Step.{incoming}
 use Rattle.card_token.proofs.incoming.Goals as goal
 

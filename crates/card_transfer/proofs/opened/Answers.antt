@@ -2,7 +2,6 @@
 use mathlib.Core.Path.{ap, ◌∙◌}
 use Rattle.card.specs.declared.Core.{Core}
 use Rattle.card.specs.Execute.{ran}
-use borrow.Author.Rules.{rules}
 use Rattle.card_transfer.proofs.opened.Goals as goal
 
 pub returns : goal.returns

@@ -3,7 +3,6 @@ use mathlib.Core.Path.{ap, ap₂, ◌∙◌}
 use Prim.Native.Nat.{ℕ}
 use Rattle.card.specs.Checks.{first_failure, read_checks}
 use Rattle.card_start.specs.Outcome.{outcome}
-use borrow.Author.Rules.{rules}
 use Rattle.card_transfer.proofs.read_blocks.Goals as goal
 
 pub returns : goal.returns

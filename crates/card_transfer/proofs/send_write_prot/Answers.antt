@@ -3,7 +3,6 @@ use mathlib.Core.Path.{ap, ap₂, ◌∙◌}
 use Prim.Native.Nat.{ℕ}
 use Rattle.card.specs.Checks.{first_failure, address_checks}
 use Rattle.card_start.specs.Outcome.{outcome}
-use borrow.Author.Rules.{rules}
 use Rattle.card_transfer.proofs.send_write_prot.Goals as goal
 
 pub returns : goal.returns

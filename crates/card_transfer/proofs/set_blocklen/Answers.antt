@@ -4,7 +4,6 @@ use borrow.Author.Tests.{le-leb, lt-leb}
 use Rattle.card.specs.declared.Core.{Core}
 use Rattle.card.specs.declared.done.Response.TheVariants.{R1}
 use Rattle.card.specs.Execute.{ran}
-use borrow.Author.Rules.{rules}
 use Rattle.card_transfer.proofs.set_blocklen.Goals as goal
 
 pub returns-then-argument-lt1 : goal.returns-then-argument-lt1

@@ -7,7 +7,6 @@ use Rattle.card.specs.declared.done.Effect.TheVariants.{Protect}
 use Rattle.card.specs.declared.done.Response.TheVariants.{R1}
 use Rattle.card.specs.Checks.{first_failure, address_checks}
 use Rattle.card_start.specs.Outcome.{outcome}
-use borrow.Author.Rules.{rules}
 use Rattle.card_transfer.proofs.set_mark.Goals as goal
 
 pub returns : goal.returns

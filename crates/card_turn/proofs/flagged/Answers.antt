@@ -1,5 +1,4 @@
 -- Kept, set or cleared.
-use borrow.Author.Rules.{rules}
 use Rattle.card.specs.Step.{flagged}
 use Rattle.card_turn.proofs.flagged.Goals as goal
 

@@ -1,6 +1,5 @@
 -- The core and the line.
 use mathlib.Core.Path.{ap₂}
-use borrow.Author.Rules.{rules}
 use Rattle.card.specs.declared.Core.{Core}
 use Rattle.card.specs.declared.Line.{Line}
 use Rattle.card.specs.declared.Card.{Card}

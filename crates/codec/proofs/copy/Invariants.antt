@@ -1,11 +1,8 @@
 -- `copy` replaces the front byte by byte: at the loop's head the first `i` bytes are those of the source.
-use mathlib.Core.Path.{◌≡◌, refl, sym, ap, ◌∙◌}
-use mathlib.Core.List.{List, ◌++◌}
-use Prim.Native.Nat.{ℕ, ◌+◌, ◌-◌, ◌≤◌, min}
-use native.Mathlib.Omega.{arith}
-use borrow.Author.Rules.{rules}
-use lib.ListN.{length, get_or, take, drop, set, length-set}
-use Rattle.codec.proofs.Bytes.{copied_more, copied_all}
+use mathlib.Core.Path.{◌≡◌}
+use mathlib.Core.List.{◌++◌}
+use Prim.Native.Nat.{◌-◌, ◌≤◌, min}
+use lib.ListN.{length, take, drop}
 use Rattle.codec.proofs.copy.Given as goal
 
 abbrev pub invariant-loop-i : goal.invariant-loop-i

@@ -1,5 +1,4 @@
 -- `field` takes bits out of a word.
-use borrow.Author.Rules.{rules}
 use Rattle.codec.proofs.Masks.{mask_room, masked, shifted-out, unmasked}
 use Rattle.codec.proofs.field.Goals as goal
 

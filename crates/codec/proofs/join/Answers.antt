@@ -1,5 +1,4 @@
 -- `join` puts bits behind bits.
-use borrow.Author.Rules.{rules}
 use Rattle.codec.proofs.Masks.{mask_room, join-within, join-whole}
 use Rattle.codec.proofs.join.Goals as goal
 

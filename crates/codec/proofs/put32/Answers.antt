@@ -1,10 +1,7 @@
 -- `put32` writes a big-endian number, from its last byte to its first.
-use Prim.Native.Nat.{ℕ}
 use native.Mathlib.Omega.{arith}
-use borrow.Author.Rules.{rules}
 use lib.Bits.{mask_lt}
-use lib.ListN.{length}
-use Rattle.codec.proofs.Bytes.{Written, written_none, written-more, written_all}
+use Rattle.codec.proofs.Bytes.{written_none, written-more, written_all}
 use Rattle.codec.proofs.put32.Goals as goal
 
 pub loop-i-init : goal.loop-i-init

@@ -1,5 +1,4 @@
 -- `seal` is the CRC7 and a one behind it.
-use borrow.Author.Rules.{rules}
 use Rattle.codec.proofs.Check.{sealed}
 use Rattle.codec.proofs.seal.Goals as goal
 

@@ -1,9 +1,7 @@
 -- `word` reads a big-endian number: at the loop's head it has the bytes that were passed.
 use Prim.Native.Nat.{◌-◌}
-use native.Mathlib.Omega.{arith}
-use borrow.Author.Rules.{rules}
 use lib.ListN.{length}
-use Rattle.codec.proofs.Bytes.{Passed, passed_none, passed-more, passed_all}
+use Rattle.codec.proofs.Bytes.{Passed}
 use Rattle.codec.proofs.word.Given as goal
 
 abbrev pub invariant-loop-i : goal.invariant-loop-i

@@ -1,9 +1,6 @@
 -- `word32` reads a big-endian number: at the loop's head it has the bytes that were passed.
-use Prim.Native.Nat.{◌-◌}
 use native.Mathlib.Omega.{arith}
-use borrow.Author.Rules.{rules}
-use lib.ListN.{length}
-use Rattle.codec.proofs.Bytes.{Passed, passed_none, passed-more, passed_all}
+use Rattle.codec.proofs.Bytes.{passed_none, passed-more, passed_all}
 use Rattle.codec.proofs.word32.Goals as goal
 
 pub loop-i-init : goal.loop-i-init

@@ -2,7 +2,6 @@
 use mathlib.Core.Path.{◌≡◌, refl, ap, ◌∙◌}
 use mathlib.Core.List.{List}
 use Prim.Native.Nat.{ℕ}
-use borrow.Author.Rules.{rules}
 use Rattle.codec.specs.Answer.{Outcome, done, refused}
 use Rattle.wire_response.specs.Response.{decode_r2}
 use Rattle.host.specs.declared.Found.{Found}

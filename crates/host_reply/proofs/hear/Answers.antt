@@ -2,10 +2,9 @@
 use mathlib.Core.Path.{◌≡◌, refl, sym, ap, ◌∙◌}
 use mathlib.Core.List.{List}
 use Prim.Native.Nat.{ℕ}
-use borrow.Author.Rules.{rules}
 use Rattle.host.specs.declared.Found.{Found}
 use Rattle.host.specs.declared.Kind.{Kind}
-use Rattle.host.specs.declared.Kind.TheVariants.{Silence, R1, R3, R6, R7, Cid, Csd}
+use Rattle.host.specs.declared.Kind.TheVariants.{Silence, R1, R3, R7}
 use Rattle.host.specs.declared.Judgement.{Judgement}
 use Rattle.host.specs.declared.Heard.{Heard}
 use Rattle.host.specs.Reply.{judge, learn}

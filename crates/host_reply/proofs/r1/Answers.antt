@@ -1,6 +1,5 @@
 -- `r1` takes any status.
 use mathlib.Core.Path.{ap}
-use borrow.Author.Rules.{rules}
 use Rattle.host.specs.Reply.{judge}
 use Rattle.wire_response_decode.specs.Reply.{r1_read}
 use Rattle.host_reply.proofs.Accepted.{taken, unexpected}

@@ -1,6 +1,5 @@
 -- `r6` keeps the RCA.
-use mathlib.Core.Path.{◌≡◌, ap, ◌∙◌}
-use borrow.Author.Rules.{rules}
+use mathlib.Core.Path.{ap, ◌∙◌}
 use lib.ListN.{get_or}
 use Rattle.host.specs.declared.Judgement.TheVariants.{Expected}
 use Rattle.host.specs.Reply.{judge, learn, with_rca}

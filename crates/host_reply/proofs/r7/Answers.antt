@@ -1,8 +1,6 @@
 -- `r7` wants the voltage and the pattern that were sent.
-use mathlib.Core.Path.{◌≡◌, sym, ap, ◌∙◌}
-use mathlib.Core.Bool.{Bool, true, false, cond, ◌&&◌}
-use borrow.Author.Rules.{rules}
-use lib.Dec.{eqb}
+use mathlib.Core.Path.{sym, ap, ◌∙◌}
+use mathlib.Core.Bool.{Bool, cond}
 use Rattle.host.specs.declared.Reason.TheVariants.{Echo}
 use Rattle.host.specs.declared.Judgement.TheVariants.{Expected, Unexpected}
 use Rattle.host.specs.Reply.{judge}

@@ -1,6 +1,5 @@
 -- `opening` refuses a limit out of range.
 use mathlib.Core.Path.{refl, sym, ◌∙◌}
-use borrow.Author.Rules.{rules}
 use Rattle.host.specs.Host.{start}
 use Rattle.host_step.proofs.opening.Goals as goal
 

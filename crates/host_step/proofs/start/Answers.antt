@@ -1,5 +1,4 @@
 -- `start` gives the answer and the record.
-use borrow.Author.Rules.{rules}
 use Rattle.host.specs.Host.{start}
 use Rattle.host_step.proofs.start.Goals as goal
 

@@ -1,6 +1,5 @@
 -- `encode` of CSD is what the format says of its values.
 use mathlib.Core.Path.{◌∙◌}
-use borrow.Author.Rules.{rules}
 use Rattle.reg_csd.specs.Csd.{csd, csd_values}
 use Rattle.reg_cid.proofs.Sixteen.{emitted-encode}
 use Rattle.reg_csd.proofs.encode.Goals as goal

@@ -1,6 +1,5 @@
 -- `middle` joins the slots between in their order.
 use mathlib.Core.Path.{refl}
-use borrow.Author.Rules.{rules}
 use lib.Dec.{lit≤}
 use Rattle.codec.specs.Layout.{write}
 use Rattle.codec.proofs.Masks.{join-bits}

@@ -1,6 +1,5 @@
 -- The bytes of the two words.
 use mathlib.Core.Path.{◌∙◌}
-use borrow.Author.Rules.{rules}
 use Rattle.reg_csd.specs.Csd.{csd}
 use Rattle.reg_cid.proofs.Sixteen.{sixteen-image}
 use Rattle.reg_csd.proofs.sixteen.Goals as goal

@@ -1,7 +1,6 @@
 -- `decode` of CSD is what the format says of its bytes.
 use mathlib.Core.Path.{refl, ap, ◌∙◌}
 use native.Mathlib.Omega.{arith}
-use borrow.Author.Rules.{rules}
 use Rattle.codec.specs.Layout.{width, judged}
 use Rattle.codec.specs.Answer.{done}
 use Rattle.reg_csd.specs.Csd.{csd}

@@ -1,11 +1,8 @@
 -- `size_pair` tries the multipliers in their order.
-use mathlib.Core.Logic.{⊎_elim}
-use Prim.Native.Nat.{◌-◌}
 use native.Mathlib.Omega.{arith}
-use borrow.Author.Rules.{rules}
-use borrow.Author.Tests.{ltb-true, ltb-false, leb-true, leb-false}
+use borrow.Author.Tests.{ltb-true, leb-true}
 use lib.Dec.{lit≤}
-use Rattle.reg_size.proofs.Search.{Passed, passed_none, passed-more, passed_all, unit_pos, unit_lt, found, quotient_pos, size_fits_lem, not_divided, not-counted, not-small}
+use Rattle.reg_size.proofs.Search.{passed_none, passed-more, passed_all, unit_pos, unit_lt, found, quotient_pos, size_fits_lem, not_divided, not-counted, not-small}
 use Rattle.reg_size.proofs.size_pair.Goals as goal
 use Rattle.reg_size.proofs.size_pair.Goals.{else-blocks-unit-eq0-via-then-blocks-unit-eq0+then-blocks-gt0+else-blocks-unit-le4096, else-blocks-unit-eq0-via-then-blocks-unit-eq0+else-blocks-gt0, else-blocks-unit-eq0-via-else-blocks-unit-eq0}
 
@@ -43,9 +40,9 @@ loop-mult-preserved c =
     let p = c.loop-mult.invariant in
     passed-more _ _ _ p c.loop-mult-test.true
     (elim c.else-blocks-unit-eq0.branch [
-      else-blocks-unit-eq0-via-then-blocks-unit-eq0+then-blocks-gt0+else-blocks-unit-le4096 w ↦ not-small _ _ _ p w.if-blocks-unit-le4096.false
-    | else-blocks-unit-eq0-via-then-blocks-unit-eq0+else-blocks-gt0 w ↦ not-counted _ _ _ p w.if-blocks-gt0.false
-    | else-blocks-unit-eq0-via-else-blocks-unit-eq0 w ↦ not_divided _ _ _ p w.if-blocks-unit-eq0.false
+      | else-blocks-unit-eq0-via-then-blocks-unit-eq0+then-blocks-gt0+else-blocks-unit-le4096 w ↦ not-small _ _ _ p w.if-blocks-unit-le4096.false
+      | else-blocks-unit-eq0-via-then-blocks-unit-eq0+else-blocks-gt0 w ↦ not-counted _ _ _ p w.if-blocks-gt0.false
+      | else-blocks-unit-eq0-via-else-blocks-unit-eq0 w ↦ not_divided _ _ _ p w.if-blocks-unit-eq0.false
     ])
 
 pub returns : goal.returns

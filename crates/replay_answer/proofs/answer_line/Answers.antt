@@ -1,6 +1,5 @@
 -- The line is written, and the record stays.
 use mathlib.Core.Path.{ap}
-use borrow.Author.Rules.{rules}
 use Rattle.codec.specs.Answer.{Encoding}
 use Rattle.replay_answer.specs.Played.{Shown}
 use Rattle.replay_answer.proofs.answer_line.Goals as goal

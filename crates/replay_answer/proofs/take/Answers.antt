@@ -1,5 +1,4 @@
 -- What is taken, on the line.
-use borrow.Author.Rules.{rules}
 use Rattle.replay_write.specs.declared.Kind.TheVariants.{Block}
 use Rattle.replay_answer.proofs.Played.{played_by}
 use Rattle.replay_answer.proofs.take.Goals as goal

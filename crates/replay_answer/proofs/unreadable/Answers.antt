@@ -1,5 +1,4 @@
 -- The refusal, on the line.
-use borrow.Author.Rules.{rules}
 use Rattle.replay_answer.proofs.Played.{refused_by}
 use Rattle.replay_answer.proofs.unreadable.Goals as goal
 

@@ -1,6 +1,5 @@
 -- `behind` is the part that `drop` gives.
 use mathlib.Core.Path.{sym}
-use borrow.Author.Rules.{rules}
 use lib.ListN.{drop_of_length-le}
 use Rattle.replay_read.proofs.Words.{all-behind}
 use Rattle.replay_read.proofs.behind.Goals as goal

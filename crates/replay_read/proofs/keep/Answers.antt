@@ -1,5 +1,4 @@
 -- `keep` stores the byte where the buffer has room.
-use borrow.Author.Rules.{rules}
 use borrow.Author.Tests.{le-ltb, lt-ltb}
 use Rattle.replay_read.specs.Keep.{keep_byte}
 use Rattle.replay_read.proofs.keep.Goals as goal

@@ -1,9 +1,6 @@
 -- `read` looks for the words in turn.
 use mathlib.Core.Path.{sym, ◌∙◌}
-use Prim.Native.Nat.{◌≤◌}
 use native.Mathlib.Omega.{arith}
-use borrow.Author.Rules.{rules}
-use lib.ListN.{length}
 use Rattle.replay_read.specs.Read.{CMD, BLK}
 use Rattle.replay_read.proofs.Words.{front_long}
 use Rattle.replay_read.proofs.Reading.{read-cmd, read-blk, read_take, read-over, read_none}

@@ -1,6 +1,5 @@
 -- `end` adds what was written; it subtracts first, so that no sum is too large.
 use native.Mathlib.Omega.{arith}
-use borrow.Author.Rules.{rules}
 use Rattle.replay_write.proofs.end.Goals as goal
 
 pub returns-then-n-bytes : goal.returns-then-n-bytes

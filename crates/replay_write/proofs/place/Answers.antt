@@ -2,7 +2,6 @@
 use mathlib.Core.Path.{◌≡◌}
 use Prim.Native.Nat.{ℕ, ◌+◌, ◌<◌}
 use native.Mathlib.Omega.{arith}
-use borrow.Author.Rules.{rules}
 use borrow.Author.Tests.{le-leb, lt-leb}
 use lib.ListN.{length}
 use Rattle.replay_write.specs.Write.{ROOM, place}
@@ -20,8 +19,8 @@ pub returns : goal.returns
 returns c =
     let a = c.args in (
       elim c.if-count-text.branch [
-        then-count-text+else-text-count-ge-ROOM w ↦ short a.count (length a.text.now) (omega (arith, w.if-count-text.true, w.if-text-count-ge-ROOM.false))
-      | else-count-text w ↦ short a.count (length a.text.now) (omega (arith, w.if-count-text.false))
+        | then-count-text+else-text-count-ge-ROOM w ↦ short a.count (length a.text.now) (omega (arith, w.if-count-text.true, w.if-text-count-ge-ROOM.false))
+        | else-count-text w ↦ short a.count (length a.text.now) (omega (arith, w.if-count-text.false))
       ],
       omega arith,
     )

@@ -1,5 +1,4 @@
 -- `write` goes by the answer.
-use borrow.Author.Rules.{rules}
 use Rattle.replay_write.specs.Write.{written}
 use Rattle.replay_write.proofs.write.Goals as goal
 

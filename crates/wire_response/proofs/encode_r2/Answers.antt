@@ -1,6 +1,5 @@
 -- `encode_r2` stores 3Fh and the register behind it.
 use native.Mathlib.Omega.{arith}
-use borrow.Author.Rules.{rules}
 use borrow.Author.Tests.{lt-ltb, eq-eqb, ne_eqb}
 use lib.ListN.{length, length-set}
 use Rattle.wire_response.specs.Response.{encode_r2}

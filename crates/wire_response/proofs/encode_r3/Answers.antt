@@ -1,6 +1,5 @@
 -- `encode_r3` sends 3Fh, the OCR and eight ones.
 use mathlib.Core.Path.{sym, ◌∙◌}
-use borrow.Author.Rules.{rules}
 use Rattle.wire_response.proofs.Shorts.{encode-ones}
 use Rattle.wire_response.proofs.encode_r3.Goals as goal
 

@@ -2,7 +2,6 @@
 use mathlib.Core.Path.{◌≡◌, sym, ap}
 use mathlib.Core.List.{List}
 use Prim.Native.Nat.{ℕ}
-use borrow.Author.Rules.{rules}
 use Rattle.codec.specs.Answer.{Outcome, why, part}
 use Rattle.wire_response.proofs.Registers.{register-size, register-first, register-last, register-done}
 use Rattle.wire_response_decode.proofs.decode_r2.Goals as goal

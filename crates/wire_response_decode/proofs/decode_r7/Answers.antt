@@ -2,7 +2,6 @@
 use mathlib.Core.Path.{refl, ap₂, ◌∙◌}
 use mathlib.Core.List.{[], ◌∷◌}
 use Prim.Native.Nat.{ℕ}
-use borrow.Author.Rules.{rules}
 use Rattle.codec.specs.Answer.{done}
 use Rattle.codec.specs.Layout.{field, reserved, width, judged}
 use Rattle.codec.proofs.Words.{within}

@@ -1,6 +1,5 @@
 -- On to the next block, or to prg.
 use mathlib.Core.Path.{ap}
-use borrow.Author.Rules.{rules}
 use Rattle.card.specs.declared.State.TheVariants.{Rcv}
 use Rattle.card_block_in.proofs.turn.accepted.Goals as goal
 

@@ -1,6 +1,5 @@
 -- By what is open, and by the sink.
 use mathlib.Core.Path.{sym, ap, ◌∙◌}
-use borrow.Author.Rules.{rules}
 use Rattle.card.specs.declared.Open.TheVariants.{Write}
 use Rattle.card_block_in.specs.Stores.{parts}
 use Rattle.card_block_in.proofs.turn.open_write.Goals as goal

@@ -1,5 +1,4 @@
 -- Held, or back to tran.
-use borrow.Author.Rules.{rules}
 use Rattle.card_block_in.proofs.turn.rejected.Goals as goal
 
 pub returns-then-multiple : goal.returns-then-multiple

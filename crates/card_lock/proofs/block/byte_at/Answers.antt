@@ -1,6 +1,5 @@
 -- 0 behind the end.
 use mathlib.Core.Path.{sym}
-use borrow.Author.Rules.{rules}
 use lib.ListN.{get_or-eq_default}
 use Rattle.card_lock.proofs.block.byte_at.Goals as goal
 

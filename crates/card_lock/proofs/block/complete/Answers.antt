@@ -1,7 +1,6 @@
 -- The second byte says how many bytes there must be.
 use mathlib.Core.Path.{ap}
 use Prim.Native.Nat.{ℕ, ◌+◌}
-use borrow.Author.Rules.{rules}
 use lib.Dec.{leb}
 use lib.ListN.{length}
 use Rattle.card_lock.proofs.block.complete.Goals as goal

@@ -1,6 +1,5 @@
 -- The part of the payload that the second byte says.
 use mathlib.Core.Path.{ap₂, ◌∙◌}
-use borrow.Author.Rules.{rules}
 use lib.ListN.{take}
 use Rattle.card_lock.proofs.block.data.Goals as goal
 

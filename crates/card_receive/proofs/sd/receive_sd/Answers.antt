@@ -1,6 +1,5 @@
 -- In ina, or by the frame check.
 use mathlib.Core.Path.{ap, ◌∙◌}
-use borrow.Author.Rules.{rules}
 use Rattle.wire_frame.specs.declared.command.FrameCheck.TheVariants.{Good, Size, Start, Check}
 use Rattle.card.specs.Receive.{show_sd, by_check}
 use Rattle.card_receive.proofs.Received.{asleep, awake}

@@ -1,7 +1,6 @@
 -- Each of the two marks is asked.
 use mathlib.Core.Path.{ap₂}
 use mathlib.Core.Bool.{◌||◌}
-use borrow.Author.Rules.{rules}
 use Rattle.card_record.proofs.erase.pending.Goals as goal
 
 pub returns : goal.returns

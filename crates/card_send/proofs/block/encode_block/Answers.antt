@@ -1,6 +1,5 @@
 -- By the mode.
 use mathlib.Core.Path.{◌∙◌}
-use borrow.Author.Rules.{rules}
 use Rattle.card_send.proofs.Led.{bare}
 use Rattle.card_send.proofs.block.encode_block.Goals as goal
 

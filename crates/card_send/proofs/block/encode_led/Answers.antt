@@ -1,7 +1,6 @@
 -- Behind the token, or refused.
 use mathlib.Core.Path.{◌∙◌}
 use native.Mathlib.Omega.{arith}
-use borrow.Author.Rules.{rules}
 use Rattle.card_send.proofs.Led as Led
 use Rattle.card_send.proofs.block.encode_led.Goals as goal
 

@@ -1,11 +1,8 @@
 -- `all_equal` compares element by element: at the loop's head, what is left is equal where the whole is.
-use mathlib.Core.Path.{◌≡◌, refl}
+use mathlib.Core.Path.{◌≡◌}
 use Prim.Native.Nat.{◌-◌, ◌≤◌}
-use native.Mathlib.Omega.{arith}
-use borrow.Author.Rules.{rules}
 use lib.ListN.{drop}
 use Rattle.card.specs.Soundness.{equal}
-use Rattle.card_settings.proofs.Walks.{equal-differs, equal-more, equal-end}
 use Rattle.card_settings.proofs.register.all_equal.Given as goal
 
 abbrev pub invariant-loop-i : goal.invariant-loop-i

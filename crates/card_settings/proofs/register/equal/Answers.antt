@@ -1,6 +1,5 @@
 -- `equal` compares the two lists of values.
 use mathlib.Core.Path.{ap₂, ◌∙◌}
-use borrow.Author.Rules.{rules}
 use Rattle.card.specs.Soundness.{equal}
 use Rattle.card_settings.proofs.register.equal.Goals as goal
 

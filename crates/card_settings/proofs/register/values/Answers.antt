@@ -1,6 +1,5 @@
 -- `values` lists the fields in their order.
 use mathlib.Core.Path.{refl}
-use borrow.Author.Rules.{rules}
 use Rattle.reg_cid.proofs.Words.{cons}
 use Rattle.card_settings.proofs.register.values.Goals as goal
 

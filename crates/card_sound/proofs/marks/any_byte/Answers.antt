@@ -1,11 +1,7 @@
 -- `any_byte` looks at byte after byte: at the loop's head, what was found, or something in the bytes that are left.
-use mathlib.Core.Path.{◌≡◌, refl, sym, ◌∙◌}
-use mathlib.Core.Bool.{◌||◌}
-use Prim.Native.Nat.{◌-◌}
+use mathlib.Core.Path.{refl, sym, ◌∙◌}
 use native.Mathlib.Omega.{arith}
 use borrow.Author.Rules.{rules}
-use lib.ListN.{length, drop}
-use Rattle.card.specs.Soundness.{any_byte}
 use Rattle.card_sound.proofs.Walks.{any_byte-next, any_byte-end}
 use Rattle.card_sound.proofs.marks.any_byte.Goals as goal
 

@@ -1,12 +1,9 @@
 -- `any_byte` looks at byte after byte: at the loop's head, what was found, or something in the bytes that are left.
-use mathlib.Core.Path.{◌≡◌, refl, sym, ◌∙◌}
+use mathlib.Core.Path.{◌≡◌}
 use mathlib.Core.Bool.{◌||◌}
 use Prim.Native.Nat.{◌-◌}
-use native.Mathlib.Omega.{arith}
-use borrow.Author.Rules.{rules}
 use lib.ListN.{length, drop}
 use Rattle.card.specs.Soundness.{any_byte}
-use Rattle.card_sound.proofs.Walks.{any_byte-next, any_byte-end}
 use Rattle.card_sound.proofs.marks.any_byte.Given as goal
 
 abbrev pub invariant-loop-i : goal.invariant-loop-i

@@ -1,6 +1,5 @@
 -- By the mode, and the number of the state.
 use borrow.Author.Tests.{eq-eqb, ne_eqb, le-leb, lt-leb}
-use borrow.Author.Rules.{rules}
 use Rattle.card.specs.State.{ina}
 use Rattle.card.specs.Soundness.{bad_rca}
 use Rattle.card_sound.proofs.state.bad_rca.Goals as goal

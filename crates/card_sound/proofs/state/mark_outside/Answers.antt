@@ -1,5 +1,4 @@
 -- By the mark.
-use borrow.Author.Rules.{rules}
 use Rattle.card_sound.proofs.state.mark_outside.Goals as goal
 
 pub returns-in-At : goal.returns-in-At

@@ -1,5 +1,4 @@
 -- By what is open.
-use borrow.Author.Rules.{rules}
 use Rattle.card_sound.proofs.state.off_write.Goals as goal
 
 pub returns-in-Write : goal.returns-in-Write

@@ -1,5 +1,4 @@
 -- By the transfer.
-use borrow.Author.Rules.{rules}
 use Rattle.card_sound.proofs.state.sink_most.Goals as goal
 
 pub returns-in-Single : goal.returns-in-Single

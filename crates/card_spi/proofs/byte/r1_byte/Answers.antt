@@ -1,6 +1,5 @@
 -- Each bit is at most its weight, so the sum stays below bit 7.
 use native.Mathlib.Omega.{arith}
-use borrow.Author.Rules.{rules}
 use Rattle.card.specs.Spi.{r1_byte}
 use Rattle.card_spi.proofs.byte.r1_byte.Goals as goal
 

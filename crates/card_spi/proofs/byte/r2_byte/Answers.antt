@@ -1,6 +1,5 @@
 -- Each bit at its place.
 use native.Mathlib.Omega.{arith}
-use borrow.Author.Rules.{rules}
 use Rattle.card.specs.Spi.{r2_byte}
 use Rattle.card_spi.proofs.byte.r2_byte.Goals as goal
 

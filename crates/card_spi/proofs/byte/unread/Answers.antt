@@ -1,6 +1,5 @@
 -- By the response.
 use mathlib.Core.Path.{◌∙◌}
-use borrow.Author.Rules.{rules}
 use Rattle.card.specs.Spi.{unread}
 use Rattle.card_spi.proofs.byte.unread.Goals as goal
 

@@ -1,7 +1,6 @@
 -- The address is in the card.
 use mathlib.Core.Path.{sym, ◌∙◌}
 use Rattle.card.specs.Checks.{first_failure}
-use borrow.Author.Rules.{rules}
 use Rattle.card_start.proofs.checks.address_check.Goals as goal
 
 pub returns-then-outside : goal.returns-then-outside

@@ -4,7 +4,6 @@ use borrow.Author.Tests.{eq-eqb, ne_eqb}
 use Rattle.card.specs.declared.Core.{Core}
 use Rattle.card.specs.declared.done.Response.TheVariants.{R1}
 use Rattle.card.specs.Execute.{ran}
-use borrow.Author.Rules.{rules}
 use Rattle.card_start.proofs.checks.checked.Goals as goal
 
 pub returns-then-bit-eq-NONE : goal.returns-then-bit-eq-NONE

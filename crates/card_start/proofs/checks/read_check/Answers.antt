@@ -2,7 +2,6 @@
 use mathlib.Core.Path.{sym, ◌∙◌}
 use borrow.Author.Tests.{lt-ltb, le-ltb}
 use Rattle.card.specs.Checks.{first_failure}
-use borrow.Author.Rules.{rules}
 use Rattle.card_start.proofs.checks.read_check.Goals as goal
 
 pub returns-then-outside : goal.returns-then-outside

@@ -2,7 +2,6 @@
 use mathlib.Core.Path.{sym, ◌∙◌}
 use borrow.Author.Tests.{eq-eqb, ne_eqb}
 use Rattle.card.specs.Checks.{first_failure}
-use borrow.Author.Rules.{rules}
 use Rattle.card_start.proofs.checks.write_check.Goals as goal
 
 pub returns-then-length-ne-BLOCK : goal.returns-then-length-ne-BLOCK

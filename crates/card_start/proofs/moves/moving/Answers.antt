@@ -1,6 +1,5 @@
 -- A move and a response.
 use mathlib.Core.Path.{ap, ◌∙◌}
-use borrow.Author.Rules.{rules}
 use Rattle.card.specs.declared.Core.{Core}
 use Rattle.card.specs.Execute.{ran}
 use Rattle.card_start.proofs.moves.moving.Goals as goal

@@ -1,7 +1,6 @@
 -- The state that the table gives.
 use mathlib.Core.Path.{ap, ◌∙◌}
 use Rattle.card.specs.Record.{with_state}
-use borrow.Author.Rules.{rules}
 use Rattle.card_start.proofs.moves.opening.Goals as goal
 
 pub returns : goal.returns

@@ -1,6 +1,5 @@
 -- Each bit is at most its weight, so the sums stay in 32 bits.
 use native.Mathlib.Omega.{arith}
-use borrow.Author.Rules.{rules}
 use Rattle.card.specs.Status.{status}
 use Rattle.card_status.proofs.word.kept_bits.Goals as goal
 

@@ -1,7 +1,6 @@
 -- The lock, the state and two bits are added to the kept ones.
 use mathlib.Core.Path.{ap, ◌∙◌}
 use native.Mathlib.Omega.{arith}
-use borrow.Author.Rules.{rules}
 use Rattle.card.specs.Status.{at, status}
 use Rattle.card_status.proofs.word.status.Goals as goal
 

@@ -1,5 +1,4 @@
 -- Past the end, across a boundary, or neither.
-use borrow.Author.Rules.{rules}
 use borrow.Author.Tests.{le-leb, lt-leb, lt-ltb, le-ltb}
 use Rattle.card_take.proofs.turn.hold_bit.Goals as goal
 

@@ -1,6 +1,5 @@
 -- Source by source.
 use mathlib.Core.Path.{refl}
-use borrow.Author.Rules.{rules}
 use lib.Dec.{lit≤}
 use lib.ListN.{replicate}
 use Rattle.crc.specs.Bits.{bits}

@@ -1,6 +1,5 @@
 -- `counted` counts A41.
 use mathlib.Core.Path.{refl, sym, ◌∙◌}
-use borrow.Author.Rules.{rules}
 use Rattle.host.specs.Host.{counted}
 use Rattle.host_step.proofs.turn.counted.Goals as goal
 

@@ -1,6 +1,5 @@
 -- `follows` goes on, or the card is selected.
-use mathlib.Core.Path.{◌≡◌, sym, ap, ◌∙◌}
-use borrow.Author.Rules.{rules}
+use mathlib.Core.Path.{sym, ap, ◌∙◌}
 use Rattle.host.specs.declared.Next.{Next}
 use Rattle.host.specs.declared.Stepped.{Stepped}
 use Rattle.host.specs.Host.{end, follows, stepped}

@@ -7,8 +7,7 @@ use Rattle.host.specs.declared.Command.{Command}
 use Rattle.host.specs.declared.Host.{Host}
 use Rattle.host.specs.declared.Heard.{Heard}
 use Rattle.host.specs.declared.Judgement.{Judgement}
-use Rattle.host.specs.declared.Judgement.TheVariants.{Expected, Busy, Unexpected}
-use Rattle.host.specs.declared.Next.{Next}
+use Rattle.host.specs.declared.Judgement.TheVariants.{Expected, Busy}
 use Rattle.host.specs.declared.Row.{Row}
 use Rattle.host.specs.declared.Stepped.{Stepped}
 use Rattle.host.specs.Sequence.{row}

@@ -1,6 +1,5 @@
 -- `report` hands an encoder's answer on.
 use mathlib.Core.Path.{sym, ap}
-use borrow.Author.Rules.{rules}
 use Rattle.codec.specs.declared.Encoded.{Encoded}
 use Rattle.codec.specs.Answer.{encoded}
 use Rattle.host_step.specs.Report.{reported}

@@ -1,13 +1,12 @@
 -- `sends` encodes the row's frame.
-use mathlib.Core.Path.{◌≡◌, refl, sym, ap, ◌∙◌}
-use mathlib.Core.Bool.{true}
-use mathlib.Core.List.{List, [], ◌∷◌, ◌++◌}
+use mathlib.Core.Path.{◌≡◌, refl, ap, ◌∙◌}
+use mathlib.Core.List.{List, [], ◌∷◌}
 use Prim.Native.Nat.{ℕ, ◌≤◌, ◌<◌}
 use native.Mathlib.Omega.{arith}
 use borrow.Author.Rules.{rules}
 use borrow.Author.Tests.{le-ltb, lt-ltb}
-use lib.ListN.{length, drop}
-use Rattle.codec.specs.Answer.{Encoding, emit, encoding}
+use lib.ListN.{length}
+use Rattle.codec.specs.Answer.{Encoding, emit}
 use Rattle.codec.specs.Layout.{fits}
 use Rattle.codec.specs.Format.{image, encode}
 use Rattle.wire_frame.specs.Command.{command}

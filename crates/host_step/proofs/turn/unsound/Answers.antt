@@ -1,7 +1,6 @@
 -- `unsound` looks at limit and polls.
 use mathlib.Core.Path.{ap}
 use mathlib.Core.Bool.{Bool, not, ◌||◌}
-use borrow.Author.Rules.{rules}
 use lib.Dec.{ltb}
 use Rattle.host.specs.Host.{unsound}
 use Rattle.host_step.proofs.turn.unsound.Goals as goal

@@ -1,6 +1,5 @@
 -- `encode` of CID is what the format says of its values.
 use mathlib.Core.Path.{◌∙◌}
-use borrow.Author.Rules.{rules}
 use Rattle.reg_cid.specs.Cid.{cid, cid_values}
 use Rattle.reg_cid.proofs.Sixteen.{emitted-encode}
 use Rattle.reg_cid.proofs.cid.encode.Goals as goal

@@ -1,6 +1,5 @@
 -- `fields` takes the fields of CID out of its two words.
 use mathlib.Core.Path.{refl}
-use borrow.Author.Rules.{rules}
 use lib.ListN.{take, drop}
 use Rattle.codec.specs.Layout.{width}
 use Rattle.codec.proofs.Words.{within}

@@ -1,6 +1,5 @@
 -- The bytes of the two words.
 use mathlib.Core.Path.{◌∙◌}
-use borrow.Author.Rules.{rules}
 use Rattle.reg_cid.specs.Cid.{cid}
 use Rattle.reg_cid.proofs.Sixteen.{sixteen-image}
 use Rattle.reg_cid.proofs.cid.sixteen.Goals as goal

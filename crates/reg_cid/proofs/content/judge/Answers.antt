@@ -1,6 +1,5 @@
 -- `judge` gives the verdict on size, check and end bit.
 use native.Mathlib.Omega.{arith}
-use borrow.Author.Rules.{rules}
 use Rattle.reg_cid.proofs.Sixteen.{verdict-size, verdict-wrong, verdict-right}
 use Rattle.reg_cid.proofs.content.judge.Goals as goal
 

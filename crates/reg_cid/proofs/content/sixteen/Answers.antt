@@ -1,7 +1,6 @@
 -- The first word's bytes, the second's behind them, and the check of these.
 use mathlib.Core.Path.{refl}
 use native.Mathlib.Omega.{arith}
-use borrow.Author.Rules.{rules}
 use lib.ListN.{replicate, length-append}
 use Rattle.reg_cid.proofs.Sixteen.{length-twice, sealed}
 use Rattle.reg_cid.proofs.content.sixteen.Goals as goal

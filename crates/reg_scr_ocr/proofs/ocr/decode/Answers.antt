@@ -1,6 +1,5 @@
 -- `decode` of OCR is what the format says of its bytes.
 use mathlib.Core.Path.{refl, ap, ◌∙◌}
-use borrow.Author.Rules.{rules}
 use lib.Dec.{lit≤}
 use Rattle.codec.specs.Answer.{done}
 use Rattle.codec.specs.Layout.{width, judged}

@@ -1,6 +1,5 @@
 -- `word` joins the slots of OCR in their order.
 use mathlib.Core.List.{append_assoc, append-nil}
-use borrow.Author.Rules.{rules}
 use lib.Dec.{lit≤}
 use Rattle.codec.specs.Layout.{write}
 use Rattle.codec.proofs.Masks.{join-bits}

@@ -1,6 +1,5 @@
 -- `encode` of SCR is what the format says of its values.
 use mathlib.Core.Path.{refl, sym, ◌∙◌}
-use borrow.Author.Rules.{rules}
 use borrow.Author.Tests.{not-true, not-false}
 use lib.Dec.{lit≤}
 use Rattle.codec.specs.Layout.{width}

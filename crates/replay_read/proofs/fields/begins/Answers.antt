@@ -1,5 +1,4 @@
 -- `begins` compares the front of a line that is long enough.
-use borrow.Author.Rules.{rules}
 use Rattle.replay_read.proofs.Words.{too_short, front-equal}
 use Rattle.replay_read.proofs.fields.begins.Goals as goal
 

@@ -1,11 +1,8 @@
 -- `equals` compares element by element: at the loop's head, what is left is equal where the whole is.
-use mathlib.Core.Path.{◌≡◌, refl, sym}
+use mathlib.Core.Path.{◌≡◌}
 use Prim.Native.Nat.{◌-◌, ◌≤◌}
-use native.Mathlib.Omega.{arith}
-use borrow.Author.Rules.{rules}
 use lib.ListN.{length, drop}
 use Rattle.card.specs.Soundness.{equal}
-use Rattle.replay_read.proofs.Words.{lengths_differ, equal-differs, equal-more, equal-end}
 use Rattle.replay_read.proofs.fields.equals.Given as goal
 
 abbrev pub invariant-loop-i : goal.invariant-loop-i

@@ -1,10 +1,7 @@
 -- `all_hex` goes through the digits: at the loop's head, those that are left are all digits where the whole is.
-use mathlib.Core.Path.{◌≡◌, refl}
-use Prim.Native.Nat.{◌-◌, ◌≤◌}
+use mathlib.Core.Path.{refl}
 use native.Mathlib.Omega.{arith}
 use borrow.Author.Rules.{rules}
-use lib.ListN.{length, drop}
-use Rattle.replay_read.specs.Hex.{all_hex}
 use Rattle.replay_read.proofs.Digits.{digit-wrong, digit-more, all_end}
 use Rattle.replay_read.proofs.hex.all_hex.Goals as goal
 

@@ -1,6 +1,5 @@
 -- `unhex` looks at the sizes and at all digits first, so that a refusal writes nothing.
 use mathlib.Core.Path.{refl, sym, ◌∙◌}
-use borrow.Author.Rules.{rules}
 use lib.ListN.{length}
 use Rattle.replay_read.proofs.Digits.{two_each, fills-half, fills-odd, fills-wrong, fills-right}
 use Rattle.replay_read.proofs.hex.unhex.Goals as goal

@@ -1,12 +1,9 @@
 -- `unhex_into` reads two digits a turn: at the loop's head what is written and the bytes that are left are all of them.
-use mathlib.Core.Path.{◌≡◌, refl}
+use mathlib.Core.Path.{refl}
 use mathlib.Core.Bool.{false≢true}
-use mathlib.Core.List.{◌++◌}
-use Prim.Native.Nat.{◌*◌, ◌-◌, ◌≤◌}
+use Prim.Native.Nat.{◌*◌}
 use native.Mathlib.Omega.{arith}
-use borrow.Author.Rules.{rules}
-use lib.ListN.{length, take, drop, length-set}
-use Rattle.replay_read.specs.Hex.{all_hex, unhex}
+use lib.ListN.{length-set}
 use Rattle.replay_read.proofs.Digits.{high-wrong, low-wrong, all_more, unhex-more, all_end, unhex_all}
 use Rattle.replay_read.proofs.hex.unhex_into.Goals as goal
 
@@ -39,8 +36,7 @@ loop-i-preserved c =
     )
 
 pub returns : goal.returns
-returns c =
-    (
-      all_end _ (2 * c.loop-i.i) (omega arith) c.loop-i.invariant.2,
-      λ _. unhex_all _ c.loop-i.i (omega arith) _ (omega arith) c.loop-i.invariant.3,
-    )
+returns c = (
+  all_end _ (2 * c.loop-i.i) (omega arith) c.loop-i.invariant.2,
+  λ _. unhex_all _ c.loop-i.i (omega arith) _ (omega arith) c.loop-i.invariant.3,
+)

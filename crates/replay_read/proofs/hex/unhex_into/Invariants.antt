@@ -1,13 +1,9 @@
 -- `unhex_into` reads two digits a turn: at the loop's head what is written and the bytes that are left are all of them.
-use mathlib.Core.Path.{◌≡◌, refl}
-use mathlib.Core.Bool.{false≢true}
+use mathlib.Core.Path.{◌≡◌}
 use mathlib.Core.List.{◌++◌}
 use Prim.Native.Nat.{◌*◌, ◌-◌, ◌≤◌}
-use native.Mathlib.Omega.{arith}
-use borrow.Author.Rules.{rules}
-use lib.ListN.{length, take, drop, length-set}
+use lib.ListN.{length, take, drop}
 use Rattle.replay_read.specs.Hex.{all_hex, unhex}
-use Rattle.replay_read.proofs.Digits.{high-wrong, low-wrong, all_more, unhex-more, all_end, unhex_all}
 use Rattle.replay_read.proofs.hex.unhex_into.Given as goal
 
 abbrev pub invariant-loop-i : goal.invariant-loop-i

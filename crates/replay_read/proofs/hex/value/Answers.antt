@@ -1,7 +1,6 @@
 -- `value` goes through the ranges of characters from below.
 use mathlib.Core.Bool.{and-false}
 use native.Mathlib.Omega.{arith}
-use borrow.Author.Rules.{rules}
 use borrow.Author.Tests.{le-leb, lt-leb}
 use Rattle.replay_read.proofs.hex.value.Goals as goal
 

@@ -1,6 +1,5 @@
 -- `digit` counts from `0`, and from `A`.
 use native.Mathlib.Omega.{arith}
-use borrow.Author.Rules.{rules}
 use borrow.Author.Tests.{le-ltb, lt-ltb}
 use Rattle.replay_write.proofs.hex.digit.Goals as goal
 

@@ -1,12 +1,9 @@
 -- `hex_into` writes two digits a turn: at the loop's head what is written and the digits that are left are all of them.
-use mathlib.Core.Path.{◌≡◌, refl}
-use mathlib.Core.List.{◌++◌}
-use Prim.Native.Nat.{◌*◌, ◌-◌, ◌≤◌}
+use mathlib.Core.Path.{refl}
 use native.Mathlib.Omega.{arith}
 use borrow.Author.Rules.{rules}
 use lib.Bits.{mask_lt}
-use lib.ListN.{length, get_or, take, drop, length-set}
-use Rattle.replay_read.specs.Hex.{hex}
+use lib.ListN.{get_or, length-set}
 use Rattle.replay_write.proofs.Digits.{hex-more, hex_all}
 use Rattle.replay_write.proofs.hex.hex_into.Goals as goal
 

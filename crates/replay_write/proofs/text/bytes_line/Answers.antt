@@ -1,6 +1,5 @@
 -- `bytes_line` writes the tag, the newline, and the digits between them.
 use native.Mathlib.Omega.{arith}
-use borrow.Author.Rules.{rules}
 use lib.ListN.{length-append, length-take, length-drop, length-set}
 use Rattle.replay_write.proofs.Emits.{no-bytes_line, bytes-line}
 use Rattle.replay_write.proofs.text.bytes_line.Goals as goal

@@ -2,7 +2,6 @@
 use mathlib.Core.Path.{ap, ◌∙◌}
 use mathlib.Core.List.{List}
 use Prim.Native.Nat.{ℕ}
-use borrow.Author.Rules.{rules}
 use Rattle.replay_write.specs.Write.{fitted}
 use Rattle.replay_write.proofs.Decimals.{one-digit, two_digits, three_digits}
 use Rattle.replay_write.proofs.text.refusal.Goals as goal

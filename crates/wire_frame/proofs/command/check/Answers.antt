@@ -1,6 +1,5 @@
 -- `check` is `check_by` with checks on.
 use mathlib.Core.Path.{◌∙◌}
-use borrow.Author.Rules.{rules}
 use Rattle.wire_frame.proofs.Commands.{checked_by}
 use Rattle.wire_frame.proofs.command.check.Goals as goal
 

@@ -1,6 +1,5 @@
 -- `decode` answers by the frame check.
 use mathlib.Core.Path.{sym, ◌∙◌}
-use borrow.Author.Rules.{rules}
 use Rattle.wire_frame.proofs.Commands.{decode-checked}
 use Rattle.wire_frame.proofs.command.decode.Goals as goal
 

@@ -1,6 +1,5 @@
 -- `encode` sends 40h with the index, and the argument.
 use mathlib.Core.Path.{sym, ◌∙◌}
-use borrow.Author.Rules.{rules}
 use Rattle.wire_frame.proofs.Commands.{encode-command}
 use Rattle.wire_frame.proofs.command.encode.Goals as goal
 

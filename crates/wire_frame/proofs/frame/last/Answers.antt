@@ -1,5 +1,4 @@
 -- `last` is CRC7 and end bit, or eight ones.
-use borrow.Author.Rules.{rules}
 use Rattle.wire_frame.specs.Frame.{closing}
 use Rattle.wire_frame.proofs.frame.last.Goals as goal
 
