@@ -8,8 +8,8 @@ fn main(rt: HostRuntime) -> std::io::Result<()> {
     let input = &mut rt.stdin();
     // the first argument, and whether there is a second
     match (rt.arg(1, &mut text), rt.arg(2, &mut [])) {
-        (Err(FillError::NotPresent), _) => bring_up_run::run(input, b"1000"),
-        (Ok(n), Err(FillError::NotPresent)) => bring_up_run::run(input, &text[..n]),
-        _ => bring_up_run::run(input, b""),
+        (Err(FillError::NotPresent), _) => bring_up_run::run(&rt, input, b"1000"),
+        (Ok(n), Err(FillError::NotPresent)) => bring_up_run::run(&rt, input, &text[..n]),
+        _ => bring_up_run::run(&rt, input, b""),
     }
 }

@@ -1,16 +1,16 @@
 -- The digits of an answer, and its line.
 use mathlib.Core.Path.{◌≡◌, refl, sym, ap, ◌∙◌}
 use mathlib.Core.Bool.{Bool, true, false, cond, ◌&&◌, and-false, false≢true}
-use mathlib.Core.List.{List, [], ◌++◌}
-use Prim.Native.Nat.{ℕ, ◌-◌, ◌*◌, ◌/◌, ◌%◌, ◌≤◌, ◌<◌}
+use mathlib.Core.List.{List, ◌++◌}
+use Prim.Native.Nat.{ℕ, ◌*◌, ◌/◌, ◌%◌, ◌≤◌, ◌<◌}
 use native.Mathlib.Omega.{arith}
 use borrow.Author.Tests.{le-leb, lt-leb, eq-eqb, ne_eqb, eqb-true, eqb-false}
 use lib.Dec.{eqb, leb}
 use lib.ListN.{length, take, length-take}
 use lib.Seq.{take_at}
-use Rattle.replay_read.specs.Hex.{all_hex, unhex, fills}
+use Rattle.replay_read.specs.Hex.{unhex, fills}
 use Rattle.replay_read.proofs.Digits.{length-unhex}
-use Rattle.bring_up_line.specs.Answer.{Said, bytes, other, is_field, field}
+use Rattle.bring_up_line.specs.Answer.{bytes, other, is_field, field}
 
 module _ (most : ℕ) (s : List ℕ) where
   pub no_digits : length s ≡ 0 → other ≡ field most s
@@ -27,10 +27,10 @@ module _ (most : ℕ) (s : List ℕ) where
 -- digits for which the buffer has room, read into its front
 module _ (buffer s : List ℕ) (some : length s ≡ 0 → ⊥) (room : length s / 2 ≤ length buffer) where
   abbrev out : List ℕ
-  out = take (length s / 2 - 0) buffer
+  out = take (length s / 2) buffer
 
   half : length out ≡ length s / 2
-  half = omega (arith, length-take (length s / 2 - 0) buffer)
+  half = omega (arith, length-take (length s / 2) buffer)
 
   even : length s % 2 ≡ 0 → fills s out ≡ is_field (length buffer) s
   even e =

@@ -1,6 +1,6 @@
 -- The digits of a limit, one at a time.
-use mathlib.Core.Path.{◌≡◌, refl, sym, ap, ◌∙◌}
-use mathlib.Core.Bool.{Bool, true, false, cond, ◌&&◌, and-false}
+use mathlib.Core.Path.{◌≡◌, sym, ◌∙◌}
+use mathlib.Core.Bool.{true, false, ◌&&◌, and-false}
 use mathlib.Core.List.{List, [], ◌∷◌}
 use Prim.Native.Nat.{ℕ, ◌+◌, ◌-◌, ◌*◌, ◌≤◌, ◌<◌}
 use native.Mathlib.Numerals.{add-one}
@@ -32,17 +32,14 @@ module _ (text : List ℕ) (i v : ℕ) (h : i < length text) (inv : limit_from v
   unfolding c rest
   one = sym inv ∙ rw (add-one i, drop-cons text i 0 h)
 
-  pub below : get_or text i 0 < 48 → 0 ≡ read_limit text
+  pub no_digit : false ≡ (leb 48 (get_or text i 0) && leb (get_or text i 0) 57) → 0 ≡ read_limit text
   unfolding c limit_from all_digits
-  below w = sym (one ∙ rw (lt-leb 48 c w))
+  no_digit w = sym (one ∙ rw (sym w))
 
-  pub above : 57 < get_or text i 0 → 0 ≡ read_limit text
-  unfolding c limit_from all_digits
-  above w = sym (one ∙ rw (lt-leb c 57 w, and-false))
-
-  pub more : 48 ≤ get_or text i 0 → get_or text i 0 ≤ 57 → limit_from (v * 10 + (get_or text i 0 - 48)) (drop (i + 1) text) ≡ read_limit text
+  pub more : true ≡ (leb 48 (get_or text i 0) && leb (get_or text i 0) 57) → (d : ℕ) → d ≡ get_or text i 0 - 48
+      → limit_from (v * 10 + d) (drop (i + 1) text) ≡ read_limit text
   unfolding c rest limit_from all_digits number
-  more l m = sym (one ∙ rw (le-leb 48 c l, le-leb c 57 m))
+  more w d e = sym (one ∙ rw (sym w, e))
 
 pub whole : (text : List ℕ) (i v : ℕ) → length text ≤ i → v ≤ 1000 → limit_from v (drop i text) ≡ read_limit text → v ≡ read_limit text
 unfolding limit_from all_digits number

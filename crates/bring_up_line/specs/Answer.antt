@@ -1,9 +1,7 @@
 -- A line of the card, without its newline, as the answer to a command: `none`, or `rsp`, a tab and hex digits.
-use Rattle.std.specs.Prelude.{Bool, cond, ◌&&◌, List, [], ◌∷◌, ℕ, ◌*◌, ◌%◌, eqb, leb, length, take, drop}
+use Rattle.std.specs.Prelude.{Bool, cond, ◌&&◌, List, [], ◌∷◌, ℕ, ◌*◌, ◌%◌, eqb, leb, length, take, drop, Option, Some, None}
 use Rattle.card.specs.Soundness.{equal}
 use Rattle.replay_read.specs.Hex.{all_hex, unhex}
-use Rattle.bring_up_line.specs.declared.answer.AnswerRead.{AnswerRead}
-use Rattle.bring_up_line.specs.declared.answer.AnswerRead.TheVariants.{Bytes, NoAnswer}
 
 pub data Said : Type 0 where
   -- a response; no bytes are silence
@@ -29,6 +27,6 @@ read_answer most s = cond (equal s NONE) (bytes []) (cond (equal (take 4 s) RSP)
 
 -- ---- an answer as the code holds it: so many bytes of a buffer
 
-abbrev pub said : AnswerRead → List ℕ → Said
-said (Bytes n) buffer = bytes (take n buffer)
-said NoAnswer buffer = other
+abbrev pub said : Option ℕ → List ℕ → Said
+said (Some n) buffer = bytes (take n buffer)
+said None buffer = other

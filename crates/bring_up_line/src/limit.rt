@@ -2,25 +2,20 @@
 ghost use Rattle.std.specs.Prelude.{◌≡◌};
 ghost use Rattle.bring_up_line.specs.Limit.{read_limit};
 
-// A decimal number up to 1,000; 0, which is no limit, for any other text.
+// A decimal number up to 1,000; 0 for any other text, which the start refuses as it does every number out of range. The
+// library's `parse` would take a sign.
 pub fn read(text: &[u8]) -> u16
     ensures { result ≡ read_limit text.now }
 {
     let mut value: u16 = 0;
-    let mut i: usize = 0;
-    while i < text.len() {
-        let c = text[i];
-        if c < b'0' {
+    for digit in text {
+        if !digit.is_ascii_digit() {
             return 0;
         }
-        if c > b'9' {
-            return 0;
-        }
-        value = value * 10 + (c - b'0') as u16;
+        value = value * 10 + u16::from(*digit - b'0');
         if value > 1000 {
             return 0;
         }
-        i += 1;
     }
     value
 }

@@ -1,71 +1,56 @@
 // The lines of the card, one at a time.
-ghost use Rattle.std.specs.Prelude.{◌≤◌, length, IfOk};
+ghost use Rattle.std.specs.Prelude.{◌≤◌};
 
 use replay_read::{fill, keep};
 use std::io::Read;
 
-// What was read and not used yet: the bytes of a chunk from `at` to `end`.
+// A chunk of the input: what was read and not used yet are its bytes from `at` to `end`.
 #[derive(Clone, Copy)]
-pub(crate) struct Unread {
-    pub at: usize,
-    pub end: usize,
+pub(crate) struct Lines {
+    chunk: [u8; 4096],
+    at: usize,
+    end: usize,
+    ghost in_bounds: { end ≤ 4096 },
 }
 
-// How many bytes of a line were kept, without its newline.
-#[derive(Clone, Copy)]
-pub(crate) struct Arrived {
-    pub unread: Unread,
-    pub count: usize,
-}
-
-// Reads only where nothing is left, since the card may wait for the next command. A line of `count` bytes has arrived so far.
-fn filled<R: Read>(
-    input: &mut R,
-    chunk: &mut [u8],
-    unread: Unread,
-    count: usize,
-) -> std::io::Result<Unread>
-    requires { unread.end ≤ length chunk.old }
-    ensures { IfOk result (λ left. left.end ≤ length chunk.new) }
-{
-    if unread.at < unread.end {
-        return Ok(unread);
-    }
-    Ok(Unread {
-        at: 0,
-        end: fill(input, chunk, count)?,
-    })
-}
-
-// The next line; an empty one at the end of the input. Bytes past the buffer's length are dropped.
-pub(crate) fn line<R: Read>(
-    input: &mut R,
-    chunk: &mut [u8],
-    unread: Unread,
-    line: &mut [u8],
-) -> std::io::Result<Arrived>
-    requires { unread.end ≤ length chunk.old }
-    ensures { IfOk result (λ arrived. arrived.unread.end ≤ length chunk.new) }
-{
-    let mut rest = unread;
-    let mut count: usize = 0;
-    let mut turns = u64::MAX;
-    while turns > 0 {
-        turns -= 1;
-        rest = filled(input, chunk, rest, count)?;
-        let at = rest.at;
-        if at >= rest.end {
-            break;
+impl Lines {
+    pub(crate) fn new() -> Lines {
+        Lines {
+            chunk: [0; 4096],
+            at: 0,
+            end: 0,
         }
-        let byte = chunk[at];
-        rest.at = at + 1;
-        if byte == 10 {
-            break;
-        }
-        count = keep(line, count, byte);
     }
-    Ok(Arrived {
-        unread: rest,
-        count,
-    })
+
+    // The next byte; none at the end of the input. Reads only where nothing is left, since the card may wait for the next command.
+    // A line of `count` bytes has arrived so far.
+    fn next<R: Read>(&mut self, input: &mut R, count: usize) -> std::io::Result<Option<u8>> {
+        if self.at >= self.end {
+            let end = fill(input, &mut self.chunk, count)?;
+            if end == 0 {
+                return Ok(None);
+            }
+            self.at = 0;
+            self.end = end;
+        }
+        let byte = self.chunk[self.at];
+        self.at += 1;
+        Ok(Some(byte))
+    }
+
+    // The next line, without its newline; an empty one at the end of the input. Bytes past the buffer's length are dropped.
+    pub(crate) fn line<R: Read>(
+        &mut self,
+        input: &mut R,
+        line: &mut [u8],
+    ) -> std::io::Result<usize> {
+        let mut count: usize = 0;
+        for _ in 0..u64::MAX {
+            match self.next(input, count)? {
+                None | Some(b'\n') => break,
+                Some(byte) => count = keep(line, count, byte),
+            }
+        }
+        Ok(count)
+    }
 }

@@ -1,7 +1,7 @@
 // Feeds stored answers of a card to the host, one file after the other: a line of `list` has the limit and the file of each.
 #![tactic(auto)]
 
-ghost use Rattle.std.specs.Prelude.{◌≤◌, length, IfOk};
+ghost use Rattle.std.specs.Prelude.{◌≤◌, length};
 ghost use Rattle.std.specs.Io.{ReadsAtMost};
 
 use std::fs::File;
@@ -17,7 +17,7 @@ fn open<R: Files>(rt: &R, name: &[u8]) -> std::io::Result<R::File> {
     }
 }
 
-fn bring_up(rt: &(impl Files + Eprint), name: &[u8], limit: &[u8]) -> std::io::Result<()> {
+fn bring_up(rt: &(impl Files + Print + Eprint), name: &[u8], limit: &[u8]) -> std::io::Result<()> {
     let mut file = match open(rt, name) {
         Ok(file) => file,
         Err(error) => {
@@ -25,62 +25,36 @@ fn bring_up(rt: &(impl Files + Eprint), name: &[u8], limit: &[u8]) -> std::io::R
             return eprintln!(rt; ": {error}");
         }
     };
-    io::write_all(1, b"# limit ");
-    io::write_all(1, limit);
-    io::write_all(1, b", ");
-    io::write_all(1, name);
-    io::write_all(1, b"\n");
-    bring_up_run::run(&mut file, limit)
+    for text in [b"# limit ".as_slice(), limit, b", ", name, b"\n"] {
+        io::write_all(1, text);
+    }
+    bring_up_run::run(rt, &mut file, limit)
 }
 
-// Where a byte is, from a place on; the length where it is not.
-fn find(text: &[u8], from: usize, byte: u8) -> usize
-    requires { from ≤ length text.now }
-    ensures { (from ≤ result) × (result ≤ length text.now) }
-{
-    let mut i = from;
-    while i < text.len() {
-        if text[i] == byte {
+// What is before a byte, and what is behind it.
+fn cut(text: &[u8], byte: u8) -> Option<(&[u8], &[u8])> {
+    let at = text.iter().position(|b| *b == byte)?;
+    Some((&text[..at], &text[at + 1..]))
+}
+
+// The history of each whole line.
+fn all(rt: &(impl Files + Print + Eprint), list: &[u8]) -> std::io::Result<()> {
+    let mut rest = list;
+    // a proved loop has to end
+    for _ in 0..1000 {
+        let Some((limit, behind)) = cut(rest, b'\t') else {
             break;
-        }
-        i += 1;
-    }
-    i
-}
-
-// The history of a line; gives the place behind it, or the end where no whole line is left.
-fn line(rt: &(impl Files + Eprint), list: &[u8], at: usize) -> std::io::Result<usize>
-    requires { at ≤ length list.now }
-    ensures { IfOk result (λ next. next ≤ length list.now) }
-{
-    let tab = find(list, at, 9);
-    let end = find(list, tab, 10);
-    if end >= list.len() {
-        return Ok(end);
-    }
-    let name = tab + 1;
-    if name > end {
-        return Ok(list.len());
-    }
-    bring_up(rt, &list[name..end], &list[at..tab])?;
-    Ok(end + 1)
-}
-
-// A proved loop has to end: it counts its lines down.
-fn all(rt: &(impl Files + Eprint), list: &[u8]) -> std::io::Result<()> {
-    let mut at: usize = 0;
-    let mut lines: usize = 1000;
-    while lines > 0 {
-        lines -= 1;
-        if at >= list.len() {
+        };
+        let Some((name, next)) = cut(behind, b'\n') else {
             break;
-        }
-        at = line(rt, list, at)?;
+        };
+        bring_up(rt, name, limit)?;
+        rest = next;
     }
     Ok(())
 }
 
-// Reads until the text is full or the file ends: how many bytes.
+// Reads until the text is full or the file ends: how many bytes. No call of the library does so without the heap.
 fn read_full<R: Read>(input: &mut R, text: &mut [u8]) -> std::io::Result<usize>
     ensures { ReadsAtMost result text.new }
 {

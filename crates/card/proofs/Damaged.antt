@@ -8,12 +8,12 @@ use native.Mathlib.Omega.{arith}
 use borrow.Author.Tests.{eq-eqb, le-ltb}
 use lib.Dec.{eqb}
 use lib.ListN.{length, get_or, drop}
+use Rattle.std.specs.Prelude.{Ok, Err}
 use Rattle.codec.specs.Answer.{done}
 use Rattle.wire_packet.specs.Packet.{PAYLOAD, CHECK, packet_right, payload_of}
-use Rattle.wire_frame.specs.Command.{frame_check, frame_check_by}
+use Rattle.wire_frame.specs.Command.{frame_check, frame_check_by, FrameCheck, good}
 use Rattle.wire_frame.proofs.Commands.{checked_by}
-use Rattle.wire_frame.specs.declared.command.FrameCheck.{FrameCheck}
-use Rattle.wire_frame.specs.declared.command.FrameCheck.TheVariants.{Good, Size, Start, Check}
+use Rattle.wire_frame.specs.declared.command.Fault.TheVariants.{Size, Start, Check}
 use Rattle.card.specs.declared.Sink.TheVariants.{Single, Multiple, LockUnlock}
 use Rattle.card.specs.declared.State.{State}
 use Rattle.card.specs.declared.State.TheVariants.{Idle}
@@ -54,24 +54,24 @@ record Unmoved (c : Core) (t : Turn) : Type 0 where
   effect : t.effect ≡ Effect.Nothing
   flag : in_spi c.bus.mode ≡ true → t.flag ≡ Keep
 
-check-sd : (k : FrameCheck) (c : Core) (low : Bool) → in_spi c.bus.mode ≡ false → ((index argument : ℕ) → k ≡ Good index argument → ⊥)
+check-sd : (k : FrameCheck) (c : Core) (low : Bool) → in_spi c.bus.mode ≡ false → ((index argument : ℕ) → k ≡ good index argument → ⊥)
     → Unmoved c (by_check k c low)
 unfolding by_check
-check-sd (Good index argument) c low sd h = absurd (h index argument refl)
-check-sd Size c low sd h = record { core = refl; message = hushed refl; effect = refl; flag = λ spi. refl }
-check-sd Start c low sd h = record { core = refl; message = hushed refl; effect = refl; flag = λ spi. refl }
-check-sd Check c low sd h = record { core = refl; message = hushed refl; effect = refl; flag = λ spi. absurd (true≢false (sym spi ∙ sd)) }
+check-sd (Ok fields) c low sd h = absurd (h fields.index fields.argument refl)
+check-sd (Err Size) c low sd h = record { core = refl; message = hushed refl; effect = refl; flag = λ spi. refl }
+check-sd (Err Start) c low sd h = record { core = refl; message = hushed refl; effect = refl; flag = λ spi. refl }
+check-sd (Err Check) c low sd h = record { core = refl; message = hushed refl; effect = refl; flag = λ spi. absurd (true≢false (sym spi ∙ sd)) }
 
-check-spi : (k : FrameCheck) (c : Core) → in_spi c.bus.mode ≡ true → ((index argument : ℕ) → k ≡ Good index argument → ⊥) → Unmoved c (by_check_spi k c)
+check-spi : (k : FrameCheck) (c : Core) → in_spi c.bus.mode ≡ true → ((index argument : ℕ) → k ≡ good index argument → ⊥) → Unmoved c (by_check_spi k c)
 unfolding by_check_spi
-check-spi (Good index argument) c spi h = absurd (h index argument refl)
-check-spi Size c spi h = record { core = refl; message = hushed refl; effect = refl; flag = λ e. refl }
-check-spi Start c spi h = record { core = refl; message = hushed refl; effect = refl; flag = λ e. refl }
-check-spi Check c spi h = record { core = refl; message = erred spi refl; effect = refl; flag = λ e. refl }
+check-spi (Ok fields) c spi h = absurd (h fields.index fields.argument refl)
+check-spi (Err Size) c spi h = record { core = refl; message = hushed refl; effect = refl; flag = λ e. refl }
+check-spi (Err Start) c spi h = record { core = refl; message = hushed refl; effect = refl; flag = λ e. refl }
+check-spi (Err Check) c spi h = record { core = refl; message = erred spi refl; effect = refl; flag = λ e. refl }
 
 -- where checks are judged
 receive_unmoved : (c : Core) (low : Bool) (frame : List ℕ) → checking c.bus.mode ≡ true
-    → ((index argument : ℕ) → frame_check frame ≡ Good index argument → ⊥) → Unmoved c (receive c low frame)
+    → ((index argument : ℕ) → frame_check frame ≡ good index argument → ⊥) → Unmoved c (receive c low frame)
 unfolding receive receive_sd
 receive_unmoved c low frame checks h =
     cond_elim (Unmoved c) (in_spi c.bus.mode)
@@ -107,7 +107,7 @@ ignored_by a out r t e (erred spi m) =
     (ap (λ (x : Result). x.out) e ∙ ap (λ (x : Message). written crc x out) m)
 
 pub copy_unheard : (a b : World) (frame : List ℕ) (low : Bool) (out : List ℕ) → SameWorld a b → Sound a → length frame ≡ FRAME → ROOM ≤ length out
-    → Checks a → ((index argument : ℕ) → frame_check frame ≡ Good index argument → ⊥) → Unheard a b frame low out
+    → Checks a → ((index argument : ℕ) → frame_check frame ≡ good index argument → ⊥) → Unheard a b frame low out
 unfolding step show affected flagged
 copy_unheard a b frame low out e s h room checks bad =
     let c = a.card.core in

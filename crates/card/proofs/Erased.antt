@@ -1,4 +1,5 @@
 -- Erase: 32 and 33 keep the erase marks below capacity, so a sweep is inside the card.
+use Rattle.std.specs.Prelude.{None, Option, Some}
 use mathlib.Core.Path.{◌≡◌, refl}
 use mathlib.Core.Bool.{true, false, ◌&&◌, false≢true, and-eq-true_iff}
 use mathlib.Core.List.{[]}
@@ -6,8 +7,6 @@ use Prim.Native.Nat.{ℕ, ◌+◌, ◌-◌, ◌/◌, ◌≤◌, ◌<◌}
 use native.Mathlib.Omega.{arith}
 use borrow.Author.Tests.{leb-false, ltb-false}
 use lib.Dec.{ltb}
-use Rattle.card.specs.declared.EraseMark.{EraseMark}
-use Rattle.card.specs.declared.EraseMark.TheVariants.{Unset, At}
 use Rattle.card.specs.declared.EraseMarks.{EraseMarks}
 use Rattle.card.specs.declared.Core.{Core}
 use Rattle.card.specs.declared.command.Command.TheVariants.{Erase}
@@ -30,9 +29,9 @@ use Rattle.card.proofs.Started.{Right, right, passed, checked-right}
 use Rattle.card.proofs.Opened.{moved-sturdy}
 
 -- a mark that is set is below what it is not outside of
-mark_in : (top : ℕ) (m : EraseMark) → is_set m ≡ true → mark_outside top m ≡ false → address m < top
-mark_in top Unset e h = absurd (false≢true e)
-mark_in top (At a) e h = leb-false top a h
+mark_in : (top : ℕ) (m : Option ℕ) → is_set m ≡ true → mark_outside top m ≡ false → address m < top
+mark_in top None e h = absurd (false≢true e)
+mark_in top (Some a) e h = leb-false top a h
 
 -- the same record, but for its kept bits
 pub record Alike (c d : Core) : Type 0 where
@@ -48,7 +47,7 @@ module _ (c : Core) (f : Sturdy c) where
       let top = capacity c.settings in
       checked-right c (address_checks top a) _ f
       (λ e.
-      right (pend c f (record { first = At a; second = Unset }) (record { first = (passed (outside top a sets OUT_OF_RANGE) [] e).0; second = refl }))
+      right (pend c f (record { first = Some a; second = None }) (record { first = (passed (outside top a sets OUT_OF_RANGE) [] e).0; second = refl }))
       refl refl)
 
   drop-right : (n : ℕ) → Right c (ran (drop_erase (raise c n)) R1)
@@ -62,7 +61,7 @@ module _ (c : Core) (f : Sturdy c) where
       (λ t.
       checked-right c (address_checks top a) _ f
       (λ e.
-      let both : EraseMarks = record { first = c.erase.first; second = At a } in
+      let both : EraseMarks = record { first = c.erase.first; second = Some a } in
       right (pend c f both (record { first = f.erase.first; second = (passed (outside top a sets OUT_OF_RANGE) [] e).0 })) refl refl))
       (λ t. drop-right ERASE_SEQ_ERROR)
 

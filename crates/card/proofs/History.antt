@@ -4,9 +4,8 @@ use mathlib.Core.Bool.{Bool, false}
 use mathlib.Core.List.{List, [], ◌∷◌}
 use Prim.Native.Nat.{ℕ, ◌+◌, ◌≤◌}
 use lib.ListN.{drop}
-use Rattle.wire_frame.specs.Command.{frame_check}
+use Rattle.wire_frame.specs.Command.{frame_check, good}
 use Rattle.wire_frame.specs.Damage.{DamagedFrame}
-use Rattle.wire_frame.specs.declared.command.FrameCheck.TheVariants.{Good}
 use Rattle.wire_packet.specs.Packet.{PAYLOAD, CHECK, packet_right}
 use Rattle.wire_packet.specs.Damage.{DamagedBlock}
 use Rattle.wire_frame.proofs.Detection.{frame-caught}
@@ -20,7 +19,7 @@ use Rattle.card.proofs.Alike.{Matched, step-alike}
 use Rattle.card.proofs.Damaged.{copy_unheard, block-not_stored}
 
 module _
-    (caught : (f : List ℕ) → DamagedFrame f → (index argument : ℕ) → frame_check f ≡ Good index argument → ⊥)
+    (caught : (f : List ℕ) → DamagedFrame f → (index argument : ℕ) → frame_check f ≡ good index argument → ⊥)
     (wrong : (size : ℕ) → size ≤ PAYLOAD + CHECK → (s : List ℕ) → DamagedBlock size s → packet_right s ≡ false)
   where
     unharmed : (w : World) (c : Call) → Unharmed w c

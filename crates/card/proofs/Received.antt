@@ -4,8 +4,9 @@ use mathlib.Core.Bool.{Bool, true, false, ◌&&◌, and-eq-true_iff}
 use mathlib.Core.List.{List}
 use Prim.Native.Nat.{ℕ}
 use lib.Dec.{eqb}
-use Rattle.wire_frame.specs.declared.command.FrameCheck.{FrameCheck}
-use Rattle.wire_frame.specs.declared.command.FrameCheck.TheVariants.{Good, Size, Start, Check}
+use Rattle.std.specs.Prelude.{Ok, Err}
+use Rattle.wire_frame.specs.declared.command.Fault.TheVariants.{Size, Start, Check}
+use Rattle.wire_frame.specs.Command.{FrameCheck}
 use Rattle.card.specs.declared.Core.{Core}
 use Rattle.card.specs.declared.command.Command.{Command}
 use Rattle.card.specs.declared.done.Done.{Done}
@@ -71,17 +72,17 @@ module _ (c : Core) (P : Turn → Type 0) (h : Cases c P) where
 
   checked-sd : (low : Bool) (f : FrameCheck) → P (by_check f c low)
   unfolding by_check
-  checked-sd low (Good index argument) = judged-sd low index argument
-  checked-sd low Size = h.still
-  checked-sd low Start = h.still
-  checked-sd low Check = h.damaged
+  checked-sd low (Ok fields) = judged-sd low fields.index fields.argument
+  checked-sd low (Err Size) = h.still
+  checked-sd low (Err Start) = h.still
+  checked-sd low (Err Check) = h.damaged
 
   checked-spi : in_spi c.bus.mode ≡ true → (f : FrameCheck) → P (by_check_spi f c)
   unfolding by_check_spi
-  checked-spi spi (Good index argument) = judged-spi spi index argument
-  checked-spi spi Size = h.still
-  checked-spi spi Start = h.still
-  checked-spi spi Check = h.damaged_spi spi
+  checked-spi spi (Ok fields) = judged-spi spi fields.index fields.argument
+  checked-spi spi (Err Size) = h.still
+  checked-spi spi (Err Start) = h.still
+  checked-spi spi (Err Check) = h.damaged_spi spi
 
   pub receive_elim : (low : Bool) (frame : List ℕ) → P (receive c low frame)
   unfolding receive receive_sd

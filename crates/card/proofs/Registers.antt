@@ -1,4 +1,5 @@
 -- The registers on the wire: what the card encodes goes through R2 and comes back as the fields of the record.
+use Rattle.std.specs.Prelude.{Option, Some, None}
 use mathlib.Core.Path.{◌≡◌, refl, ap, ◌∙◌}
 use mathlib.Core.Bool.{Bool, true, false, not, ◌&&◌, and-eq-true_iff, false≢true}
 use mathlib.Core.List.{List, [], ◌∷◌}
@@ -16,8 +17,7 @@ use Rattle.codec.specs.Layout.{fits, width, judged}
 use Rattle.codec.specs.Format.{Format, image, right, decode}
 use Rattle.codec.specs.RoundTrip.{RoundTrip}
 use Rattle.codec.proofs.RoundTrip.{done-decode, length-image}
-use Rattle.wire_frame.specs.Command.{frame_check}
-use Rattle.wire_frame.specs.declared.command.FrameCheck.TheVariants.{Good}
+use Rattle.wire_frame.specs.Command.{frame_check, good}
 use Rattle.wire_response.specs.Response.{r2_bytes, register_right}
 use Rattle.wire_response.proofs.Registers.{r2_trip}
 use Rattle.reg_cid.specs.Cid.{cid, cid_values}
@@ -26,7 +26,6 @@ use Rattle.reg_csd.specs.Csd.{csd, csd_values}
 use Rattle.reg_csd.proofs.RoundTrips.{csd_round_trip}
 use Rattle.reg_size.specs.Size.{size_pair}
 use Rattle.reg_size.specs.declared.SizePair.{SizePair}
-use Rattle.reg_size.specs.declared.SizePair.TheVariants.{Pair, NoPair}
 use Rattle.reg_size.proofs.SizeLaws.{size-pair_right}
 use Rattle.card.specs.declared.Settings.{Settings}
 use Rattle.card.specs.declared.Mode.TheVariants.{Sd}
@@ -83,11 +82,11 @@ cid-fits s e =
     ((and-eq-true_iff (leb s.blocks MOST) c).0 ((and-eq-true_iff (leb LEAST s.blocks) b).0 e).1).1).1).1
 
 -- what the pair gives fits C_SIZE and C_SIZE_MULT
-pair_fits : (n : ℕ) (p : SizePair) → size_pair n ≡ p → (pair_size p ≤ 4095) × (pair_mult p ≤ 7)
-pair_fits n (Pair size mult) e =
-    let g = (size-pair_right.pair n size mult e).gives in
+pair_fits : (n : ℕ) (p : Option SizePair) → size_pair n ≡ p → (pair_size p ≤ 4095) × (pair_mult p ≤ 7)
+pair_fits n (Some pair) e =
+    let g = (size-pair_right.pair n pair e).gives in
     (g.size_fits, g.mult_fits)
-pair_fits n NoPair e = (omega arith, omega arith)
+pair_fits n None e = (omega arith, omega arith)
 
 pub csd-fits : (s : Settings) → fits csd.slots (csd_values (csd_of s)) ≡ true
 unfolding fits csd_of
@@ -169,7 +168,7 @@ module _
         cond_either P (row k).keeps_erase refl (cond_either P (pending c) kept refl)
 
     answers : c.bus.mode ≡ Sd → c.bus.state ≡ s → misses (row k).rca (own c.bus argument) ≡ false → (frame : List ℕ) (low : Bool)
-        → frame_check frame ≡ Good (row k).index argument → (receive c low frame).message ≡ plain (bytes c)
+        → frame_check frame ≡ good (row k).index argument → (receive c low frame).message ≡ plain (bytes c)
     unfolding receive receive_sd by_check judge show_sd shown_sd legal moves number_in
     answers mode state mine frame low check =
         let chip : (low && eqb (row k).index 0) ≡ false = rw another (never low) in

@@ -6,9 +6,10 @@ use mathlib.Core.Option.{Option, none, some}
 use Prim.Native.Nat.{ℕ, ◌+◌, ◌-◌, ◌/◌}
 use lib.Dec.{eqb, leb, ltb}
 use lib.ListN.{length, replicate}
-use Rattle.wire_frame.specs.declared.command.FrameCheck.{FrameCheck}
-use Rattle.wire_frame.specs.declared.command.FrameCheck.TheVariants.{Good, Size, Start, Check as WrongCheck}
+use Rattle.std.specs.Prelude.{Ok, Err}
+use Rattle.wire_frame.specs.declared.command.Fault.TheVariants.{Size, Start, Check as WrongCheck}
 use Rattle.wire_response.specs.Response as Wire
+use Rattle.wire_frame.specs.Command.{FrameCheck}
 use Rattle.card.specs.declared.Source.{Source}
 use Rattle.card.specs.declared.Source.TheVariants.{Blocks, WriteProtect, SdStatus, WrittenBlocks, Scr, Csd as CsdBlock, Cid as CidBlock}
 use Rattle.card.specs.declared.Sink.{Sink}
@@ -278,17 +279,17 @@ module _ (c : Core) (b : Kept) where
 
   by_check_same : (low : Bool) (f : FrameCheck) → SameTurn (by_check f c low) (by_check f (with_kept c b) low)
   unfolding by_check
-  by_check_same low (Good index argument) = judge_same low index argument
-  by_check_same low Size = turned refl
-  by_check_same low Start = turned refl
-  by_check_same low WrongCheck = turned refl
+  by_check_same low (Ok fields) = judge_same low fields.index fields.argument
+  by_check_same low (Err Size) = turned refl
+  by_check_same low (Err Start) = turned refl
+  by_check_same low (Err WrongCheck) = turned refl
 
   by_check_same-spi : (f : FrameCheck) → SameTurn (by_check_spi f c) (by_check_spi f (with_kept c b))
   unfolding by_check_spi
-  by_check_same-spi (Good index argument) = judge_same-spi index argument
-  by_check_same-spi Size = turned refl
-  by_check_same-spi Start = turned refl
-  by_check_same-spi WrongCheck = turned refl
+  by_check_same-spi (Ok fields) = judge_same-spi fields.index fields.argument
+  by_check_same-spi (Err Size) = turned refl
+  by_check_same-spi (Err Start) = turned refl
+  by_check_same-spi (Err WrongCheck) = turned refl
 
   pub receive_same : (low : Bool) (frame : List ℕ) → SameTurn (receive c low frame) (receive (with_kept c b) low frame)
   unfolding receive receive_sd

@@ -1,9 +1,8 @@
 -- The bench readings of 01, and further ones that tell near definitions apart, as one table.
-use Rattle.std.specs.Prelude.{◌≡◌, Bool, true, false, ◌&&◌, List, [], ◌∷◌, ◌++◌, ℕ, replicate}
+use Rattle.std.specs.Prelude.{◌≡◌, Bool, true, false, ◌&&◌, List, [], ◌∷◌, ◌++◌, ℕ, replicate, Some}
 use Rattle.wire_packet.specs.Packet.{packet}
 use Rattle.card.specs.declared.State.{State}
 use Rattle.card.specs.declared.State.TheVariants.{Stby, Tran}
-use Rattle.card.specs.declared.EraseMark.TheVariants.{At}
 use Rattle.card.specs.Settings.{capacity}
 use Rattle.card.specs.Record.{with_erase, with_state, with_app, with_rca}
 use Rattle.card.specs.Lock.{no_password}
@@ -47,7 +46,7 @@ out_of_sequence = 0x6600000000A5 shows 0x2610000900F7 ∷ []
 -- a sound card that no history leads to: erase marks outside tran, or after 55
 abbrev pub erase-pending : State → Bool → World
 erase-pending s app =
-    let c = with_erase (with_app (with_state (with_rca (fresh small false) 1) s) app) (record { first = At 0; second = At 0x200 }) in
+    let c = with_erase (with_app (with_state (with_rca (fresh small false) 1) s) app) (record { first = Some 0; second = Some 0x200 }) in
     world (record { core = c; password = no_password; line = line false }) (replicate (capacity small) 0)
 
 unfoldable pub examples : List Example

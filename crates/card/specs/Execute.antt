@@ -1,6 +1,6 @@
 -- What each command does when it runs (01, "Transitions", "Start checks", "Erase"). The bus mode is asked by 0 and A41 alone; where a
 -- command leads in it is the table's matter.
-use Rattle.std.specs.Prelude.{Bool, true, false, cond, not, ◌&&◌, ◌||◌, List, ℕ, ◌+◌, ◌-◌, ◌/◌, ◌%◌, ◌^◌, eqb, leb, ltb}
+use Rattle.std.specs.Prelude.{Bool, true, false, cond, not, ◌&&◌, ◌||◌, List, ℕ, ◌+◌, ◌-◌, ◌/◌, ◌%◌, ◌^◌, eqb, leb, ltb, None, Some}
 use Rattle.std.proofs.Math.Option.{none, some}
 use Rattle.card.specs.declared.Source.{Source}
 use Rattle.card.specs.declared.Source.TheVariants.{Blocks, WriteProtect, WrittenBlocks}
@@ -8,7 +8,6 @@ use Rattle.card.specs.declared.Sink.{Sink}
 use Rattle.card.specs.declared.State.{State}
 use Rattle.card.specs.declared.Mode.TheVariants.{Spi}
 use Rattle.card.specs.declared.State.TheVariants.{Idle, Ready, Tran, Data, Rcv, Ina}
-use Rattle.card.specs.declared.EraseMark.TheVariants.{Unset, At}
 use Rattle.card.specs.declared.Core.{Core}
 use Rattle.card.specs.declared.command.Command.{Command}
 use Rattle.card.specs.declared.command.Command.TheVariants.{GoIdleState, AllSendCid, SendRelativeAddr, SelectCard, DeselectCard, SendIfCond, SendCsd, SendCid, StopTransmission, SendStatus, AppCmd, GoInactiveState, SetBlocklen, ReadSingleBlock, ReadMultipleBlock, SendWriteProt, WriteBlock, WriteMultipleBlock, LockUnlock, SetWriteProt, ClrWriteProt, Erase, EraseWrBlkStart, EraseWrBlkEnd, SdStatus, SendNumWrBlocks, SendScr, SetWrBlkEraseCount, SetClrCardDetect, SdSendOpCond, ReadOcr, CrcOnOff, Unknown}
@@ -135,13 +134,13 @@ settled k c = cond (row k).keeps_erase c (cond (pending c) (drop_erase (raise c 
 
 -- 32; a repeated one drops the second
 unfoldable pub erase_start : Core → ℕ → Done
-erase_start c a = checked c (address_checks (capacity c.settings) a) (ran (with_erase c (record { first = At a; second = Unset })) R1)
+erase_start c a = checked c (address_checks (capacity c.settings) a) (ran (with_erase c (record { first = Some a; second = None })) R1)
 
 -- 33, judged before its address: without 32 it is ERASE_SEQ_ERROR
 unfoldable pub erase_end : Core → ℕ → Done
 erase_end c a =
     cond (is_set c.erase.first)
-    (checked c (address_checks (capacity c.settings) a) (ran (with_erase c (record { first = c.erase.first; second = At a })) R1))
+    (checked c (address_checks (capacity c.settings) a) (ran (with_erase c (record { first = c.erase.first; second = Some a })) R1))
     (ran (drop_erase (raise c ERASE_SEQ_ERROR)) R1)
 
 -- a bit for protected blocks that are skipped

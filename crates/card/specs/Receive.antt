@@ -1,8 +1,7 @@
 -- The frame rules (01, "Frames"; 02, order 5), in order, of both bus modes.
-use Rattle.std.specs.Prelude.{Bool, false, cond, ◌&&◌, List, ℕ, eqb}
-use Rattle.wire_frame.specs.Command.{frame_check, frame_check_by}
-use Rattle.wire_frame.specs.declared.command.FrameCheck.{FrameCheck}
-use Rattle.wire_frame.specs.declared.command.FrameCheck.TheVariants.{Good, Size, Start, Check}
+use Rattle.std.specs.Prelude.{Bool, false, cond, ◌&&◌, List, ℕ, eqb, Ok, Err}
+use Rattle.wire_frame.specs.Command.{frame_check, frame_check_by, FrameCheck}
+use Rattle.wire_frame.specs.declared.command.Fault.TheVariants.{Size, Start, Check}
 use Rattle.card.specs.declared.Mode.TheVariants.{Spi}
 use Rattle.card.specs.declared.Core.{Core}
 use Rattle.card.specs.declared.command.Command.{Command}
@@ -41,10 +40,10 @@ show_sd c low j = elim j.verdict [
 
 -- what the frame check says: start or transmission bit wrong, nothing changes (house); check or end bit wrong, COM_CRC_ERROR
 unfoldable pub by_check : FrameCheck → Core → Bool → Turn
-by_check (Good index argument) c low = show_sd c low (judge c index argument)
-by_check Size c low = quiet c Keep
-by_check Start c low = quiet c Keep
-by_check Check c low = quiet c Set
+by_check (Ok fields) c low = show_sd c low (judge c fields.index fields.argument)
+by_check (Err Size) c low = quiet c Keep
+by_check (Err Start) c low = quiet c Keep
+by_check (Err Check) c low = quiet c Set
 
 -- in ina nothing changes
 unfoldable pub receive_sd : Core → Bool → List ℕ → Turn
@@ -61,10 +60,10 @@ show_spi c j = elim j.verdict [
 ]
 
 unfoldable pub by_check_spi : FrameCheck → Core → Turn
-by_check_spi (Good index argument) c = show_spi c (judge c index argument)
-by_check_spi Size c = quiet c Keep
-by_check_spi Start c = quiet c Keep
-by_check_spi Check c = said c (plain (error_r1 SpiBits.COM_CRC_ERROR c))
+by_check_spi (Ok fields) c = show_spi c (judge c fields.index fields.argument)
+by_check_spi (Err Size) c = quiet c Keep
+by_check_spi (Err Start) c = quiet c Keep
+by_check_spi (Err Check) c = said c (plain (error_r1 SpiBits.COM_CRC_ERROR c))
 
 -- with checks off a wrong CRC7 is passed over, but for 8
 abbrev pub receive_spi : Core → List ℕ → Turn

@@ -1,10 +1,8 @@
 -- The record's parts, one update for each: antt has no record update, so each is written out once.
-use Rattle.std.specs.Prelude.{Bool, true, false, List, ℕ}
+use Rattle.std.specs.Prelude.{Bool, true, false, List, ℕ, None, Option, Some}
 use Rattle.card.specs.declared.Settings.{Settings}
 use Rattle.card.specs.declared.Mode.{Mode}
 use Rattle.card.specs.declared.State.{State}
-use Rattle.card.specs.declared.EraseMark.{EraseMark}
-use Rattle.card.specs.declared.EraseMark.TheVariants.{Unset, At}
 use Rattle.card.specs.declared.Bus.{Bus}
 use Rattle.card.specs.declared.EraseMarks.{EraseMarks}
 use Rattle.card.specs.declared.Kept.{Kept}
@@ -135,13 +133,13 @@ with_mode c m = with_bus c (record { mode = m; state = c.bus.state; rca = c.bus.
 -- ---- erase marks
 
 abbrev pub no_erase : EraseMarks
-no_erase = record { first = Unset; second = Unset }
+no_erase = record { first = None; second = None }
 
-abbrev pub is_set : EraseMark → Bool
-is_set Unset = false
-is_set (At a) = true
+abbrev pub is_set : Option ℕ → Bool
+is_set None = false
+is_set (Some a) = true
 
 -- the address of a mark; 0 where there is none
-abbrev pub address : EraseMark → ℕ
-address Unset = 0
-address (At a) = a
+abbrev pub address : Option ℕ → ℕ
+address None = 0
+address (Some a) = a

@@ -3,8 +3,7 @@ use Rattle.std.specs.Prelude.{◌≡◌, Bool, true, List, ℕ, take}
 use Rattle.std.proofs.Math.Option.{none}
 use Rattle.codec.specs.Answer.{Outcome, done, refused}
 use Rattle.codec.specs.Format.{Format, decode}
-use Rattle.wire_frame.specs.Command.{frame_check}
-use Rattle.wire_frame.specs.declared.command.FrameCheck.TheVariants.{Good}
+use Rattle.wire_frame.specs.Command.{frame_check, good}
 use Rattle.wire_response.specs.Response.{r2, decode_r2}
 use Rattle.reg_cid.specs.Cid.{cid, cid_values}
 use Rattle.reg_csd.specs.Csd.{csd, csd_values}
@@ -20,7 +19,7 @@ read_register f s = elim (decode_r2 s) [ done register ↦ decode f register | r
 -- in SD mode a well-formed frame of this index and argument, in a call that is not refused: so the record is sound
 pub record Handed (w : World) (index argument : ℕ) (frame out : List ℕ) : Type 0 where
   pub mode : w.card.core.bus.mode ≡ Sd
-  pub check : frame_check frame ≡ Good index argument
+  pub check : frame_check frame ≡ good index argument
   pub passed : frame_refusal w frame out ≡ none
 
 -- the call answers an R2 at the front of the buffer, which decodes to these fields

@@ -4,8 +4,7 @@ use Rattle.std.specs.Prelude.{◌≡◌, Bool, true, false, cond, List, [], ◌�
 use Rattle.std.proofs.Math.Option.{none}
 use Rattle.codec.specs.Answer.{done}
 use Rattle.codec.specs.Format.{image}
-use Rattle.wire_frame.specs.Command.{frame_check}
-use Rattle.wire_frame.specs.declared.command.FrameCheck.TheVariants.{Good}
+use Rattle.wire_frame.specs.Command.{frame_check, good}
 use Rattle.wire_response.specs.Response as Wire
 use Rattle.card.specs.declared.command.Command.TheVariants.{SendStatus}
 use Rattle.card.specs.Record.{with_kept}
@@ -20,7 +19,7 @@ use Rattle.card.specs.Step.{Call, power_up, command_frame, block_in, take_block,
 -- 13 that runs as SEND_STATUS: for this card, not after 55, in one of its states; the call is not refused, so the record is sound
 pub record SendsStatus (w : World) (frame out : List ℕ) : Type 0 where
   pub argument : ℕ
-  pub check : frame_check frame ≡ Good 13 argument
+  pub check : frame_check frame ≡ good 13 argument
   pub own : ownRca w.card.core.bus argument ≡ true
   pub unmarked : w.card.core.bus.app ≡ false
   pub permitted : legal SendStatus w.card.core.bus ≡ true

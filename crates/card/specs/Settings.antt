@@ -1,5 +1,5 @@
 -- Settings (01, "The module on the bench"), and the registers that the card gives by them.
-use Rattle.std.specs.Prelude.{Bool, true, false, cond, ◌&&◌, List, ◌∷◌, ℕ, ◌+◌, ◌-◌, ◌*◌, ◌/◌, leb, replicate}
+use Rattle.std.specs.Prelude.{Bool, true, false, cond, ◌&&◌, List, ◌∷◌, ℕ, ◌+◌, ◌-◌, ◌*◌, ◌/◌, leb, replicate, Option, Some, None}
 use Rattle.codec.specs.Layout.{fits}
 use Rattle.codec.specs.Format.{image}
 use Rattle.reg_cid.specs.Cid.{cid, cid_values}
@@ -7,7 +7,6 @@ use Rattle.reg_csd.specs.Csd.{csd, csd_values}
 use Rattle.reg_size.specs.Size.{size_pair}
 use Rattle.reg_csd.specs.declared.Csd.{Csd}
 use Rattle.reg_size.specs.declared.SizePair.{SizePair}
-use Rattle.reg_size.specs.declared.SizePair.TheVariants.{Pair, NoPair}
 use Rattle.card.specs.declared.Settings.{Settings}
 
 -- the block length of the card, and the blocks of a protection group
@@ -42,18 +41,18 @@ address_of s argument = argument
 abbrev pub groups : Settings → ℕ
 groups s = (s.blocks + (GROUP - 1)) / GROUP
 
-abbrev pub is_pair : SizePair → Bool
-is_pair (Pair size mult) = true
-is_pair NoPair = false
+abbrev pub is_pair : Option SizePair → Bool
+is_pair (Some pair) = true
+is_pair None = false
 
 -- C_SIZE and C_SIZE_MULT
-abbrev pub pair_size : SizePair → ℕ
-pair_size (Pair size mult) = size
-pair_size NoPair = 0
+abbrev pub pair_size : Option SizePair → ℕ
+pair_size (Some pair) = pair.c_size
+pair_size None = 0
 
-abbrev pub pair_mult : SizePair → ℕ
-pair_mult (Pair size mult) = mult
-pair_mult NoPair = 0
+abbrev pub pair_mult : Option SizePair → ℕ
+pair_mult (Some pair) = pair.c_size_mult
+pair_mult None = 0
 
 -- 4 to 65,536 blocks that some pair gives; 0 to 15 polls; CID fields that fit
 unfoldable pub allowed : Settings → Bool

@@ -1,13 +1,11 @@
 -- Unsound records (01, "Settings"): the list in 01's order. What the types make impossible is not here; docs/DECISIONS.md names it. Every
 -- condition is one of both bus modes, but for those on bus states and on the RCA, which are SD mode's (02, order 5).
-use Rattle.std.specs.Prelude.{Bool, true, false, cond, not, ◌&&◌, ◌||◌, List, [], ◌∷◌, ℕ, ◌+◌, ◌/◌, ◌%◌, ◌^◌, eqb, leb, ltb, get_or, drop}
+use Rattle.std.specs.Prelude.{Bool, true, false, cond, not, ◌&&◌, ◌||◌, List, [], ◌∷◌, ℕ, ◌+◌, ◌/◌, ◌%◌, ◌^◌, eqb, leb, ltb, get_or, drop, None, Option, Some}
 use Rattle.reg_csd.specs.Csd.{csd_values}
 use Rattle.card.specs.declared.Open.{Open}
 use Rattle.card.specs.declared.Open.TheVariants.{Nothing, Read, Write, Busy}
 use Rattle.card.specs.declared.Sink.{Sink}
 use Rattle.card.specs.declared.Sink.TheVariants.{Single, Multiple, LockUnlock}
-use Rattle.card.specs.declared.EraseMark.{EraseMark}
-use Rattle.card.specs.declared.EraseMark.TheVariants.{Unset, At}
 use Rattle.card.specs.declared.Core.{Core}
 use Rattle.card.specs.Settings.{BLOCK, PASSWORD, capacity, groups, allowed, csd_of}
 use Rattle.card.specs.State.{ready, ident, stby, ina, number, in_spi, open_of, transfer_address, sink_address}
@@ -43,9 +41,9 @@ written_most (Read s) n = n
 written_most (Write s) n = sink_most s n
 written_most (Busy s) n = n
 
-abbrev pub mark_outside : ℕ → EraseMark → Bool
-mark_outside top Unset = false
-mark_outside top (At a) = outside top a
+abbrev pub mark_outside : ℕ → Option ℕ → Bool
+mark_outside top None = false
+mark_outside top (Some a) = outside top a
 
 -- in SD mode: RCA nonzero in idle, ready, ident or zero in stby..dis; free in ina
 unfoldable pub bad_rca : Bool → ℕ → ℕ → Bool

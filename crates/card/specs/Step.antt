@@ -1,7 +1,7 @@
 -- The five calls: refusals first, in 01's order, and then what the call does. This is the step that histories run.
 use Rattle.std.specs.Prelude.{Bool, true, false, cond, not, ◌&&◌, ◌||◌, List, [], ◌∷◌, ◌++◌, ℕ, ◌+◌, eqb, leb, ltb, length, get_or, drop, replicate}
 use Rattle.std.proofs.Math.Option.{Option, none, some}
-use Rattle.codec.specs.Answer.{Outcome, done, refused}
+use Rattle.codec.specs.Answer.{Outcome, done, refused, row_of}
 use Rattle.codec.specs.Format.{image}
 use Rattle.wire_response.specs.Response as Wire
 use Rattle.wire_response.specs.Status.{short_status}
@@ -71,7 +71,7 @@ answer (Sent n) = done (sent n)
 answer Accepted = done (answered ACCEPTED)
 answer Rejected = done (answered REJECTED)
 answer Over = done over
-answer (Refused k) = refused k
+answer (Refused e) = refused (row_of e)
 
 -- ---- from the turn to what is seen
 

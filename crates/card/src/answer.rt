@@ -1,3 +1,6 @@
+// What a call answers, and what it is handed.
+use codec::Refusal;
+
 // The answer of a call.
 #[derive(Clone, Copy)]
 pub enum Answer {
@@ -10,8 +13,7 @@ pub enum Answer {
     Rejected,
     // powered up, or busy over
     Over,
-    // the number of the refusal
-    Refused(u8),
+    Refused(Refusal),
 }
 
 // What was handed in, held against the rows of 01's table of refused calls: which of them apply.

@@ -1,5 +1,6 @@
 // The card's types: here the record, with the settings and the states that it holds. What the calls do with them is in specs/, and
-// no code is here. Every check above spells these names out many times over, so they stand in no module.
+// no code is here. Every check above spells these names out many times over, so they stand in no module, and nothing derives what no code
+// uses: each crate above would check it.
 #![tactic(auto)]
 
 pub mod answer;
@@ -101,17 +102,11 @@ pub struct Bus {
     pub app: bool,
 }
 
-// An address that 32 or 33 gave.
-#[derive(Clone, Copy)]
-pub enum EraseMark {
-    Unset,
-    At(u32),
-}
-
+// The addresses that 32 and 33 gave.
 #[derive(Clone, Copy)]
 pub struct EraseMarks {
-    pub first: EraseMark,
-    pub second: EraseMark,
+    pub first: Option<u32>,
+    pub second: Option<u32>,
 }
 
 // The status bits that the card keeps, but COM_CRC_ERROR.
@@ -147,7 +142,8 @@ pub struct Core {
     pub marks: [u8; 256],
 }
 
-// The password, none where the length is 0. It stands beside the core: no command looks at it, and a block of 42 hands the core
+// The password, none where the length is 0. Bytes and a length by value, as the forms ask; a length over 16 is a value that rows 2 and 6
+// refuse. It stands beside the core: no command looks at it, and a block of 42 hands the core
 // nothing but whether its operation succeeds.
 #[derive(Clone, Copy)]
 pub struct Password {

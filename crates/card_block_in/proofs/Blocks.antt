@@ -5,10 +5,15 @@ use mathlib.Core.List.{List}
 use Prim.Native.Nat.{ℕ, ◌+◌, ◌-◌, ◌≤◌}
 use native.Mathlib.Omega.{arith}
 use borrow.Author.Tests.{le-leb}
-use lib.Dec.{eqb}
 use lib.ListN.{length, take, drop, length-drop}
 use lib.Seq.{length-take-le, take-length}
-use Rattle.codec.specs.Answer.{done, refused, WRONG, why}
+use Rattle.std.specs.Prelude.{Option, Some, None, Result, Ok, Err}
+use Rattle.std.specs.Borrow.{Bor}
+use Rattle.std.specs.Option.{unwrap_or}
+use Rattle.std.specs.Result.{is_ok}
+use Rattle.std.proofs.lemmas.Option.{none-some}
+use Rattle.codec.specs.declared.Refusal.{Refusal}
+use Rattle.codec.specs.Answer.{Outcome, done, refused, WRONG, part_read}
 use Rattle.wire_packet.specs.Packet.{CHECK, payload_of, packet_right, decode_packet}
 use Rattle.card.specs.declared.Core.{Core}
 use Rattle.card.specs.declared.done.Effect.TheVariants.{Store}
@@ -20,12 +25,23 @@ use Rattle.card.specs.Effects.{Stored, stored, over, affected}
 use Rattle.card_effect.specs.Apply.{reaches}
 use Rattle.card_block_in.specs.Stores.{Decodes}
 
--- the decoder's number is 0 exactly if the check is the payload's
-pub judged : (p : List ℕ) → Decodes p → eqb (why (decode_packet p)) 0 ≡ packet_right p
-unfolding decode_packet
-judged p d = rw (le-leb 3 (length p) d.low, le-leb (length p) 514 d.high) (go (packet_right p))
+-- the decoder reads a payload exactly if the check is the payload's
+read : Outcome (List ℕ) → Bool
+read (done s) = true
+read (refused k) = false
+
+read_is : (r : Result (Bor (List ℕ)) Refusal) → is_ok r ≡ read (part_read r)
+unfolding read
+read_is (Ok part) = refl
+read_is (Err e) = refl
+
+pub judged : (p : List ℕ) (r : Result (Bor (List ℕ)) Refusal) → Decodes p → part_read r ≡ decode_packet p → is_ok r ≡ packet_right p
+unfolding decode_packet read
+judged p r d e =
+    read_is r ∙ ap read e
+    ∙ rw (le-leb 3 (length p) d.low, le-leb (length p) 514 d.high) (go (packet_right p))
   where
-    go : (b : Bool) → eqb (why (cond b (done (payload_of p)) (refused WRONG))) 0 ≡ b
+    go : (b : Bool) → read (cond b (done (payload_of p)) (refused WRONG)) ≡ b
     go true = refl
     go false = refl
 
@@ -63,20 +79,20 @@ choice c false s t = refl
 
 -- ---- the bit of a place
 
-abbrev pub bit_of : Bool → Bool → ℕ
-bit_of past kept = cond past OUT_OF_RANGE (cond kept WP_VIOLATION 0)
+abbrev pub bit_of : Bool → Bool → Option ℕ
+bit_of past kept = cond past (Some OUT_OF_RANGE) (cond kept (Some WP_VIOLATION) None)
 
-pub held_by : {T : Type 0} (f : ℕ → T) (free : T) (past kept : Bool) → (bit_of past kept ≡ 0 → ⊥)
-    → f (bit_of past kept) ≡ cond past (f OUT_OF_RANGE) (cond kept (f WP_VIOLATION) free)
-held_by f free true kept n = refl
-held_by f free false true n = refl
-held_by f free false false n = absurd (n refl)
+pub held_by : {T : Type 0} (f : ℕ → T) (free : T) (past kept : Bool) (n : ℕ) → Some n ≡ bit_of past kept
+    → f n ≡ cond past (f OUT_OF_RANGE) (cond kept (f WP_VIOLATION) free)
+held_by f free true kept n h = ap (λ (o : Option ℕ). f (unwrap_or o 0)) h
+held_by f free false true n h = ap (λ (o : Option ℕ). f (unwrap_or o 0)) h
+held_by f free false false n h = absurd (none-some n (sym h))
 
-pub inside : (past kept : Bool) → bit_of past kept ≡ 0 → past ≡ false
-inside true kept e = absurd (omega arith)
-inside false kept e = refl
+pub inside : (past kept : Bool) → None ≡ bit_of past kept → past ≡ false
+inside true kept h = absurd (none-some _ h)
+inside false kept h = refl
 
-pub unkept : (past kept : Bool) → bit_of past kept ≡ 0 → kept ≡ false
-unkept true kept e = absurd (omega arith)
-unkept false true e = absurd (omega arith)
-unkept false false e = refl
+pub unkept : (past kept : Bool) → None ≡ bit_of past kept → kept ≡ false
+unkept true kept h = absurd (none-some _ h)
+unkept false true h = absurd (none-some _ h)
+unkept false false h = refl

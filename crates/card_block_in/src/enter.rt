@@ -16,12 +16,7 @@ fn packet_right(checks: bool, p: &[u8]) -> bool
     requires { Decodes p.now }
     ensures { result ≡ (not checks || packet_right p.now) }
 {
-    if checks {
-        let mut number: u8 = 0;
-        wire_packet::decode(p, &mut number);
-        return number == 0;
-    }
-    true
+    !checks || wire_packet::decode(p).is_ok()
 }
 
 // The packet stands behind the first bytes of a block, so many; no byte is moved but to its place in memory.
@@ -40,7 +35,8 @@ pub(crate) fn enter(
     let right = packet_right(checks, &block[at..]);
     let payload = &block[at..end];
     if card_state::locking(o) {
-        return lock_into(card, right, payload, memory);
+        lock_into(card, right, payload, memory)
+    } else {
+        write_into(card, right, payload, memory, open_write(o))
     }
-    write_into(card, right, payload, memory, open_write(o))
 }

@@ -12,18 +12,17 @@ use card::Card;
 use card::answer::Answer;
 use card::command::Command;
 use card_call::{Stepped, answered, refused};
-use card_refuse::{refusal, rows};
+use card_refuse::{check, rows};
 use card_start::moves::moved;
 use card_state::checking;
 use card_token::{Arrived, incoming, other_block, token_size};
+use codec::Refusal;
 
 pub fn block_in(card: Card, block: &[u8], memory: &mut [u8]) -> Stepped
     ensures { returned result memory.new [] ≡ stepped card memory.old (block_in block.now) }
 {
-    let bus = card.core.bus;
-    let state = bus.state;
-    let mode = bus.mode;
-    let open = card_state::open(state);
+    let mode = card.core.bus.mode;
+    let open = card_state::open(card.core.bus.state);
     let r = rows(
         card.core,
         card.password.length,
@@ -32,12 +31,18 @@ pub fn block_in(card: Card, block: &[u8], memory: &mut [u8]) -> Stepped
         false,
         !card_state::writing(open),
     );
-    let n = refusal(&[2, 1, 3, 5], r);
-    if n != 0 {
-        return refused(card, n);
+    if let Err(refusal) = check(
+        &[
+            Refusal::Record,
+            Refusal::Size,
+            Refusal::Memory,
+            Refusal::Closed,
+        ],
+        r,
+    ) {
+        return refused(card, refusal);
     }
-    let came = incoming(mode, open, block);
-    match came {
+    match incoming(mode, open, block) {
         Arrived::Packet => enter::enter(
             card,
             open,
@@ -52,7 +57,7 @@ pub fn block_in(card: Card, block: &[u8], memory: &mut [u8]) -> Stepped
         }
         Arrived::Ignored => Stepped {
             answer: Answer::Silence,
-            card: card,
+            card,
         },
     }
 }

@@ -1,5 +1,5 @@
 // A payload into the open transfer of 24 or 25: the place, and the store.
-ghost use Rattle.std.specs.Prelude.{◌≡◌, [], true, false, cond, ◌+◌, ◌*◌, ◌<◌, length};
+ghost use Rattle.std.specs.Prelude.{◌≡◌, [], true, false, cond, Some, None, ◌+◌, ◌*◌, ◌<◌, length};
 ghost use Rattle.card.specs.declared.State.TheVariants.{Tran, Rcv, Prg};
 ghost use Rattle.card.specs.Settings.{MOST};
 ghost use Rattle.card.specs.Settings as Sizes;
@@ -23,14 +23,15 @@ use card_state::sink;
 use card_status::{OUT_OF_RANGE, WP_VIOLATION};
 
 // An open transfer of 24 or 25.
-#[derive(Clone, Copy)]
+#[derive(Clone, Copy, Debug, PartialEq, Eq)]
 pub(crate) struct Transfer {
     multiple: bool,
     address: u32,
     held: bool,
 }
 
-// Where no write is open row 5 has refused the call, and 42's is none of these: as a held one.
+// Where no write is open row 5 has refused the call, and 42's is none of these: as a held one, whose silence is theirs too. An Option
+// would give that silence a second path.
 pub(crate) fn open_write(o: Open) -> Transfer
     ensures { result ≡ parts o }
 {
@@ -40,9 +41,7 @@ pub(crate) fn open_write(o: Open) -> Transfer
         held: true,
     };
     match o {
-        Open::Nothing => closed,
-        Open::Read(_) => closed,
-        Open::Write(s) => match s {
+        Open::Write(sink) => match sink {
             Sink::Single { address, held } => Transfer {
                 multiple: false,
                 address,
@@ -55,21 +54,21 @@ pub(crate) fn open_write(o: Open) -> Transfer
             },
             Sink::LockUnlock => closed,
         },
-        Open::Busy(_) => closed,
+        Open::Nothing | Open::Read(_) | Open::Busy(_) => closed,
     }
 }
 
-// The bit that holds a transfer at a place, or 0.
-fn hold_bit(top: u64, wp: bool, address: u32) -> u8
-    ensures { result ≡ cond (outside top address) Status.OUT_OF_RANGE (cond wp Status.WP_VIOLATION 0) }
+// The bit that holds a transfer at a place.
+fn hold_bit(top: u64, wp: bool, address: u32) -> Option<u8>
+    ensures { result ≡ cond (outside top address) (Some Status.OUT_OF_RANGE) (cond wp (Some Status.WP_VIOLATION) None) }
 {
     if top <= address as u64 {
-        return OUT_OF_RANGE;
+        Some(OUT_OF_RANGE)
+    } else if wp {
+        Some(WP_VIOLATION)
+    } else {
+        None
     }
-    if wp {
-        return WP_VIOLATION;
-    }
-    0
 }
 
 // A held transfer is silent until it is ended.
@@ -84,9 +83,10 @@ fn rejected(multiple: bool, address: u32) -> State
     ensures { result ≡ cond multiple (Rcv (sink multiple address true)) Tran }
 {
     if multiple {
-        return hold(true, address);
+        hold(true, address)
+    } else {
+        State::Tran
     }
-    State::Tran
 }
 
 // After a store 24 goes to prg, 25 on to the next block.
@@ -95,9 +95,10 @@ fn accepted(multiple: bool, address: u32) -> State
     ensures { result ≡ cond multiple (Rcv (sink true (address + Sizes.BLOCK) false)) Prg }
 {
     if multiple {
-        return State::Rcv(sink(true, address + BLOCK, false));
+        State::Rcv(sink(true, address + BLOCK, false))
+    } else {
+        State::Prg
     }
-    State::Prg
 }
 
 pub(crate) fn write_into(
@@ -114,7 +115,7 @@ pub(crate) fn write_into(
     if t.held {
         return Stepped {
             answer: Answer::Silence,
-            card: card,
+            card,
         };
     }
     if !right {
@@ -124,8 +125,7 @@ pub(crate) fn write_into(
     let all = whole(card.core.settings.permanent, card.core.settings.temporary);
     let mut marks = card.core.marks;
     let wp = guarded(all, &marks, t.address);
-    let bit = hold_bit(capacity(card.core.settings.blocks), wp, t.address);
-    if bit != 0 {
+    if let Some(bit) = hold_bit(capacity(card.core.settings.blocks), wp, t.address) {
         let next = with_state(raise(card.core, bit), hold(t.multiple, t.address));
         return answered(card, next, Answer::Silence);
     }

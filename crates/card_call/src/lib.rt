@@ -8,7 +8,7 @@ ghost use Rattle.card_call.specs.Replied.{replied};
 
 use card::answer::Answer;
 use card::{Card, Core, Password};
-use codec::Encoded;
+use codec::Refusal;
 
 #[derive(Clone, Copy)]
 pub struct Stepped {
@@ -16,13 +16,13 @@ pub struct Stepped {
     pub card: Card,
 }
 
-// The number alone; the record stays.
-pub fn refused(card: Card, number: u8) -> Stepped
-    ensures { result ≡ record { answer = Answer.Refused number; card = card } }
+// The refusal alone; the record stays.
+pub fn refused(card: Card, refusal: Refusal) -> Stepped
+    ensures { result ≡ record { answer = Answer.Refused refusal; card = card } }
 {
     Stepped {
-        answer: Answer::Refused(number),
-        card: card,
+        answer: Answer::Refused(refusal),
+        card,
     }
 }
 
@@ -30,15 +30,13 @@ pub fn refused(card: Card, number: u8) -> Stepped
 pub fn answered_with(card: Card, core: Core, password: Password, answer: Answer) -> Stepped
     ensures { result ≡ record { answer = answer; card = record { core = core; password = password; line = card.line } } }
 {
-    let line = card.line;
-    let next = Card {
-        core: core,
-        password: password,
-        line: line,
-    };
     Stepped {
-        answer: answer,
-        card: next,
+        answer,
+        card: Card {
+            core,
+            password,
+            ..card
+        },
     }
 }
 
@@ -46,16 +44,15 @@ pub fn answered_with(card: Card, core: Core, password: Password, answer: Answer)
 pub fn answered(card: Card, core: Core, answer: Answer) -> Stepped
     ensures { result ≡ record { answer = answer; card = record { core = core; password = card.password; line = card.line } } }
 {
-    let password = card.password;
-    answered_with(card, core, password, answer)
+    answered_with(card, core, card.password, answer)
 }
 
 // What an encoder answered: the bytes were sent, or its refusal.
-pub fn report(e: Encoded) -> Answer
-    ensures { answer result ≡ replied (encoded e) }
+pub fn report(r: Result<usize, Refusal>) -> Answer
+    ensures { answer result ≡ replied (encoded r) }
 {
-    match e {
-        Encoded::Wrote(n) => Answer::Sent(n),
-        Encoded::Refused(k) => Answer::Refused(k),
+    match r {
+        Ok(n) => Answer::Sent(n),
+        Err(refusal) => Answer::Refused(refusal),
     }
 }

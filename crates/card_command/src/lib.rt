@@ -12,9 +12,10 @@ use card_call::{Stepped, refused};
 use card_effect::apply;
 use card_protect::whole;
 use card_receive::receive;
-use card_refuse::{refusal, rows};
+use card_refuse::{check, rows};
 use card_respond::respond;
 use card_turn::{Turned, kept};
+use codec::Refusal;
 
 // a frame, and the room for any response
 const FRAME: usize = 6;
@@ -27,19 +28,13 @@ fn show(card: Card, turn: Turned, memory: &mut [u8], out: &mut [u8]) -> Stepped
     ensures { returned result memory.new out.new
         ≡ seen (show (world card memory.old) card.password out.old (turned turn)) }
 {
-    let line = card.line;
-    let password = card.password;
     let all = whole(card.core.settings.permanent, card.core.settings.temporary);
     let mut marks = card.core.marks;
-    let effect = turn.effect;
-    apply(all, effect, &[], memory, &mut marks);
-    let next = turn.core;
-    let message = turn.message;
-    let answer = respond(message, next, line.com_crc_error, out);
-    let flag = turn.flag;
+    apply(all, turn.effect, &[], memory, &mut marks);
+    let answer = respond(turn.message, turn.core, card.line.com_crc_error, out);
     Stepped {
-        answer: answer,
-        card: kept(next, password, marks, flag, line),
+        answer,
+        card: kept(turn.core, card.password, marks, turn.flag, card.line),
     }
 }
 
@@ -62,9 +57,16 @@ pub fn command_frame(
         out.len() < ROOM,
         false,
     );
-    let n = refusal(&[1, 2, 3, 4], r);
-    if n != 0 {
-        return refused(card, n);
+    if let Err(refusal) = check(
+        &[
+            Refusal::Size,
+            Refusal::Record,
+            Refusal::Memory,
+            Refusal::Buffer,
+        ],
+        r,
+    ) {
+        return refused(card, refusal);
     }
     show(card, receive(card.core, low, frame), memory, out)
 }

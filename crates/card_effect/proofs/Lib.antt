@@ -1,3 +1,2 @@
--- Laws of blocks swept and bytes put into memory, and of the kinds of effects.
+-- Laws of blocks swept.
 pub mod Sweeps
-pub mod Did

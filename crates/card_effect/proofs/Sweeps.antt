@@ -1,16 +1,14 @@
--- Blocks swept one after the other, bytes zeroed one after the other, and a part of memory put back.
+-- Blocks swept one after the other, and a part of memory put back zeroed.
 use mathlib.Core.Path.{◌≡◌, refl, sym, ap, ap₂, ◌∙◌}
 use mathlib.Core.Bool.{Bool, true, false, cond}
 use mathlib.Core.List.{List, ◌++◌, append-nil}
-use Prim.Native.Nat.{ℕ, suc, ◌+◌, ◌-◌, ◌*◌, ◌<◌, ◌≤◌}
-use native.Mathlib.Numerals.{add-one}
+use Prim.Native.Nat.{ℕ, ◌+◌, ◌-◌, ◌*◌, ◌<◌, ◌≤◌}
 use native.Mathlib.Omega.{arith}
 use borrow.Rule.Slice.PartMut.{mid_of, put_mid, put_same, mid_len, Post-is}
-use lib.ListN.{length, get_or, take, drop, set, replicate, length-replicate, replicate-append-replicate, drop_of_length-le}
-use lib.Seq.{take-length, drop-cons, set_at, append_snoc}
+use lib.ListN.{length, take, drop, replicate, length-replicate, drop_of_length-le}
 use Rattle.card.specs.Settings.{BLOCK}
 use Rattle.card.specs.Protect.{guarded}
-use Rattle.card.specs.Effects.{over, swept_block, swept}
+use Rattle.card.specs.Effects.{swept_block, swept}
 use Rattle.card_protect.proofs.Blocks.{left_one}
 use Rattle.card_effect.specs.Apply.{zeroed}
 
@@ -22,13 +20,6 @@ module _ (all : Bool) (marks : List ℕ) (b e : ℕ) (m : List ℕ) where
   pub swept-end : e ≤ b → swept all marks b (e - b) m ≡ m
   unfolding swept
   swept-end h = let z : e - b ≡ 0 = omega arith in ap (λ (k : ℕ). swept all marks b k m) z
-
-pub zero_more : (p : List ℕ) (i : ℕ) → i < length p → set (zeroed i p) i 0 ≡ zeroed (i + 1) p
-zero_more p i h =
-    ap (λ (l : List ℕ). set (replicate i 0 ++ l) i 0) (drop-cons p i 0 h)
-    ∙ set_at (replicate i 0) (get_or p i 0) (drop (suc i) p) 0 i (length-replicate i 0)
-    ∙ sym (append_snoc (replicate i 0) 0 (drop (suc i) p))
-    ∙ ap₂ (λ (l : List ℕ) (k : ℕ). l ++ drop k p) (replicate-append-replicate i 1 0) (sym (add-one i))
 
 -- none is kept, or all are
 pub zero_all : (p next : List ℕ) (kept : ℕ) → next ≡ zeroed (length p - kept) p → kept ≡ 0 → next ≡ replicate (length p) 0
@@ -72,15 +63,3 @@ swept-part all marks b m part kept h g e =
     picked : (t : Bool) → put_mid a (a + BLOCK - a) m (zeroed (length mid - cond t BLOCK 0) mid) ≡ cond t m zeros
     picked true = ap (put_mid a (a + BLOCK - a) m) (zero-none mid BLOCK size) ∙ put_same a (a + BLOCK - a) m
     picked false = ap (put_mid a (a + BLOCK - a) m) (zero_all mid _ 0 refl refl) ∙ part-zeroed m a BLOCK (omega arith)
-
--- a payload copied into the part that is lent for it
-pub stored-part : (m s part : List ℕ) (a : ℕ) → a + length s ≤ length m
-    → part ≡ take (length (mid_of a (a + length s - a) m)) s ++ drop (length s) (mid_of a (a + length s - a) m)
-    → put_mid a (a + length s - a) m part ≡ over m a s
-stored-part m s part a h e =
-    let n : a + length s - a ≡ length s = omega arith in
-    let size : length (mid_of a (a + length s - a) m) ≡ length s = mid_len a (a + length s) m h ∙ n in
-    let short : length (mid_of a (a + length s - a) m) ≤ length s = omega arith in
-    let whole : part ≡ s =
-    e ∙ ap₂ (λ (x y : List ℕ). x ++ y) (ap (λ (k : ℕ). take k s) size ∙ take-length s) (drop_of_length-le (mid_of a (a + length s - a) m) short) ∙ append-nil s in
-    ap₂ (λ (x y : List ℕ). take a m ++ (x ++ y)) whole (Post-is a (a + length s) m (omega arith))

@@ -14,21 +14,15 @@ use card_protect::{guarded_block, mark};
 fn zero(kept: usize, part: &mut [u8])
     ensures { part.new ≡ zeroed (length part.old - kept) part.old }
 {
-    let mut i: usize = 0;
-    while part.len() - i > kept {
-        part[i] = 0;
-        i += 1;
-    }
+    let n = part.len().saturating_sub(kept);
+    part[..n].fill(0);
 }
 
 // A protected block is kept to its last byte.
 fn kept_bytes(guarded: bool) -> usize
     ensures { result ≡ cond guarded Sizes.BLOCK 0 }
 {
-    if guarded {
-        return BLOCK as usize;
-    }
-    0
+    if guarded { BLOCK as usize } else { 0 }
 }
 
 fn sweep_block(all: bool, marks: &[u8], memory: &mut [u8], block: u64)
@@ -47,14 +41,13 @@ fn sweep(all: bool, marks: &[u8], memory: &mut [u8], first: u32, count: u32)
         ≡ cond (leb ((first + count) * Sizes.BLOCK) (length memory.old))
         (swept all marks.now first count memory.old) memory.old }
 {
-    let mut block: u64 = first as u64;
-    let behind: u64 = block + count as u64;
+    let start = first as u64;
+    let behind = start + count as u64;
     if (memory.len() as u64) < behind * BLOCK as u64 {
         return;
     }
-    while block < behind {
+    for block in start..behind {
         sweep_block(all, marks, memory, block);
-        block += 1;
     }
 }
 
@@ -81,6 +74,7 @@ fn force_erase(memory: &mut [u8], marks: &mut [u8])
     zero(0, marks);
 }
 
+#[tactic(auto, unfolding(card::specs::Effects::affected))]
 pub fn apply(all: bool, effect: Effect, payload: &[u8], memory: &mut [u8], marks: &mut [u8])
     ensures { stored memory.new marks.new
         ≡ cond (reaches effect (length payload.now) (length memory.old))

@@ -7,9 +7,9 @@ ghost use Rattle.card.specs.Execute.{settled, erase_start, erase_end, skipped, e
 use card::command::Command;
 use card::done::{Done, Effect, Response};
 use card::size::BLOCK;
-use card::{Core, EraseMark, EraseMarks};
+use card::{Core, EraseMarks};
 use card_protect::{any_guarded, whole};
-use card_record::erase::{address, is_set, pending};
+use card_record::erase::pending;
 use card_record::{drop_erase, raise, with_erase};
 use card_settings::capacity;
 use card_start::checks::{address_check, checked};
@@ -19,56 +19,55 @@ use card_status::{ERASE_PARAM, ERASE_RESET, ERASE_SEQ_ERROR, WP_ERASE_SKIP};
 use card_table::keeps_erase;
 
 // Any other command that runs, but 0 and 13, clears pending erase marks.
+#[tactic(auto, unfolding(card::specs::Execute::settled))]
 pub fn settled(command: Command, c: Core) -> Core
     ensures { result ≡ settled command c }
 {
-    if keeps_erase(command) {
-        return c;
+    if !keeps_erase(command) && pending(c.erase) {
+        drop_erase(raise(c, ERASE_RESET))
+    } else {
+        c
     }
-    let marks = c.erase;
-    if pending(marks) {
-        return drop_erase(raise(c, ERASE_RESET));
-    }
-    c
 }
 
+#[tactic(auto, unfolding(card::specs::Execute::erase_start))]
 pub fn erase_start(c: Core, first: u32) -> Done
     ensures { result ≡ erase_start c first }
 {
     let bit = address_check(capacity(c.settings.blocks), first);
     let marks = EraseMarks {
-        first: EraseMark::At(first),
-        second: EraseMark::Unset,
+        first: Some(first),
+        second: None,
     };
     checked(c, bit, ran(with_erase(c, marks), Response::R1))
 }
 
+#[tactic(auto, unfolding(card::specs::Execute::erase_end))]
 pub fn erase_end(c: Core, second: u32) -> Done
     ensures { result ≡ erase_end c second }
 {
-    let held = c.erase;
-    let first = held.first;
-    if !is_set(first) {
+    if c.erase.first.is_none() {
         return ran(drop_erase(raise(c, ERASE_SEQ_ERROR)), Response::R1);
     }
     let bit = address_check(capacity(c.settings.blocks), second);
     let marks = EraseMarks {
-        first: first,
-        second: EraseMark::At(second),
+        second: Some(second),
+        ..c.erase
     };
     checked(c, bit, ran(with_erase(c, marks), Response::R1))
 }
 
 // A bit for protected blocks that are skipped.
+#[tactic(auto, unfolding(card::specs::Execute::skipped))]
 fn skipped(c: Core, first: u32, count: u32) -> Core
     ensures { result ≡ skipped c first count }
 {
     let all = whole(c.settings.permanent, c.settings.temporary);
-    let marks = c.marks;
-    if any_guarded(all, &marks, first, count) {
-        return raise(c, WP_ERASE_SKIP);
+    if any_guarded(all, &c.marks, first, count) {
+        raise(c, WP_ERASE_SKIP)
+    } else {
+        c
     }
-    c
 }
 
 // Both addresses are in order.
@@ -82,27 +81,17 @@ fn erased(c: Core, from: u32, to: u32) -> Done
     Done {
         core: moved(Command::Erase, next),
         response: Response::R1,
-        effect: Effect::Sweep {
-            first: first,
-            count: count,
-        },
+        effect: Effect::Sweep { first, count },
     }
 }
 
+#[tactic(auto, unfolding(card::specs::Execute::erase))]
 pub fn erase(c: Core) -> Done
     ensures { result ≡ erase c }
 {
-    let marks = c.erase;
-    let first = marks.first;
-    let second = marks.second;
-    if !is_set(first) {
+    let (Some(from), Some(to)) = (c.erase.first, c.erase.second) else {
         return ran(drop_erase(raise(c, ERASE_SEQ_ERROR)), Response::R1);
-    }
-    if !is_set(second) {
-        return ran(drop_erase(raise(c, ERASE_SEQ_ERROR)), Response::R1);
-    }
-    let from = address(first);
-    let to = address(second);
+    };
     if to < from {
         return ran(drop_erase(raise(c, ERASE_PARAM)), Response::R1);
     }

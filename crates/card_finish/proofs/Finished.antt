@@ -1,6 +1,6 @@
--- What a command that ran leaves, and what each verdict shows.
+-- What a command that ran leaves.
 use mathlib.Core.Path.{◌≡◌, refl, ap, ◌∙◌}
-use mathlib.Core.Bool.{Bool, true, false}
+use mathlib.Core.Bool.{Bool}
 use mathlib.Core.List.{[]}
 use Prim.Native.Nat.{ℕ}
 use Rattle.card.specs.declared.Core.{Core}
@@ -8,17 +8,10 @@ use Rattle.card.specs.declared.command.Command.{Command}
 use Rattle.card.specs.declared.done.Response.{Response}
 use Rattle.card.specs.declared.done.Response.TheVariants.{Nothing, R1, R6, Cid, Csd, R3, R7}
 use Rattle.card.specs.declared.done.Done.{Done}
-use Rattle.card.specs.declared.done.Flag.TheVariants.{Keep, Clear}
-use Rattle.card.specs.declared.done.Judged.{Judged}
-use Rattle.card.specs.declared.done.Verdict.TheVariants.{NotAllowed, OtherCard, Ran}
+use Rattle.card.specs.declared.done.Flag.TheVariants.{Clear}
 use Rattle.card.specs.Record.{with_app}
-use Rattle.card.specs.State.{number}
-use Rattle.card.specs.Status.{ILLEGAL_COMMAND}
 use Rattle.card.specs.Table.{row, sets_app}
-use Rattle.card.specs.Execute.{raise}
-use Rattle.card.specs.Frame.{Message, Turn, quiet, word_of, message_of, cleared, finish}
-use Rattle.card.specs.Receive.{chooses, chosen, shown_sd, show_sd}
-use Rattle.card.specs.Spi.{finish_spi}
+use Rattle.card.specs.Frame.{Message, Turn, word_of, message_of, cleared, finish}
 use Rattle.card_respond.specs.declared.Message.TheVariants.{Sd}
 use Rattle.card_respond.specs.Sent.{message_by}
 use Rattle.card_turn.specs.Turned.{turned}
@@ -51,29 +44,3 @@ module _ (k : Command) (state : ℕ) (d : Done) where
         payload = [];
       })
       (message-kept (sets_app (row k).kind) d.response)
-
--- ---- the mode that command 0 chooses
-
-module _ (c : Core) (low : Bool) (k : Command) (d : Done) where
-  pub chooses-spi : chooses low k ≡ true → finish_spi c.kept k (chosen d) ≡ shown_sd c low k d
-  unfolding shown_sd
-  chooses-spi e = rw e
-
-  pub stays-sd : chooses low k ≡ false → finish k (number c.bus.state) d ≡ shown_sd c low k d
-  unfolding shown_sd
-  stays-sd e = rw e
-
--- ---- by the verdict
-
-module _ (c : Core) (low : Bool) (j : Judged) where
-  pub not-allowed : j.verdict ≡ NotAllowed → quiet (with_app (raise c ILLEGAL_COMMAND) false) Keep ≡ show_sd c low j
-  unfolding show_sd
-  not-allowed e = rw e
-
-  pub other-card : j.verdict ≡ OtherCard → quiet (with_app c false) Keep ≡ show_sd c low j
-  unfolding show_sd
-  other-card e = rw e
-
-  pub ran : j.verdict ≡ Ran → shown_sd c low j.command j.done ≡ show_sd c low j
-  unfolding show_sd
-  ran e = rw e

@@ -13,19 +13,13 @@ use card::{Core, Mode, State};
 use card_record::{with_mode, with_polls, with_rca, with_state};
 use card_start::done::ran;
 use card_start::moves::moved;
-use card_state::{in_spi, number};
-
-const IDLE: u8 = 0;
+use card_state::{in_idle, in_spi};
 
 // One more than the last published; FFFFh is followed by 0001h.
 fn next_rca(last: u16) -> u16
     ensures { result ≡ next_rca last }
 {
-    let next = std::num::wrapping_add_u16(last, 1);
-    if next == 0 {
-        return 1;
-    }
-    next
+    last.wrapping_add(1).max(1)
 }
 
 pub fn send_relative_addr(c: Core) -> Done
@@ -42,10 +36,7 @@ pub fn send_relative_addr(c: Core) -> Done
 fn voltage(argument: u32) -> u8
     ensures { result ≡ (if nat_eq (argument / 2 ^ 8 % 2 ^ 4) 1 then 1 else 0) }
 {
-    if (argument >> 8) & 15 != 1 {
-        return 0;
-    }
-    1
+    u8::from((argument >> 8) & 15 == 1)
 }
 
 // The voltage that is accepted, or 0, and the pattern.
@@ -65,13 +56,11 @@ pub fn send_if_cond(c: Core, argument: u32) -> Done
 fn ocr(finished: bool) -> u32
     ensures { result ≡ ocr_of finished }
 {
-    if finished {
-        return 0x80FF_8000;
-    }
-    0x00FF_8000
+    if finished { 0x80FF_8000 } else { 0x00FF_8000 }
 }
 
 // A query shows the OCR; a voltage that does not fit is the end; else a poll is used up, or the card is ready.
+#[tactic(auto, unfolding(card::specs::Execute::send_op_cond))]
 fn send_op_cond(c: Core, argument: u32) -> Done
     ensures { result ≡ send_op_cond c argument }
 {
@@ -89,13 +78,12 @@ fn send_op_cond(c: Core, argument: u32) -> Done
 }
 
 // SPI mode: no window is looked at, and outside idle nothing is to be done.
+#[tactic(auto, unfolding(card::specs::Execute::send_op_cond_spi))]
 fn send_op_cond_spi(c: Core) -> Core
     ensures { result ≡ send_op_cond_spi c }
 {
-    let bus = c.bus;
-    let state = bus.state;
-    let left = bus.polls;
-    if number(state) != IDLE {
+    let left = c.bus.polls;
+    if !in_idle(c.bus.state) {
         return c;
     }
     if left == 0 {
@@ -105,24 +93,22 @@ fn send_op_cond_spi(c: Core) -> Core
 }
 
 // A41.
+#[tactic(auto, unfolding(card::specs::Execute::sd_send_op_cond))]
 pub fn sd_send_op_cond(c: Core, argument: u32) -> Done
     ensures { result ≡ sd_send_op_cond c argument }
 {
-    let bus = c.bus;
-    let mode = bus.mode;
-    if in_spi(mode) {
-        return ran(send_op_cond_spi(c), Response::R1);
+    if in_spi(c.bus.mode) {
+        ran(send_op_cond_spi(c), Response::R1)
+    } else {
+        send_op_cond(c, argument)
     }
-    send_op_cond(c, argument)
 }
 
 // 58: bit 31 outside idle only.
 pub fn read_ocr(c: Core) -> Done
     ensures { result ≡ read_ocr c }
 {
-    let bus = c.bus;
-    let state = bus.state;
-    ran(c, Response::R3(ocr(number(state) != IDLE)))
+    ran(c, Response::R3(ocr(!in_idle(c.bus.state))))
 }
 
 // 59: bit 0 turns the checks on.

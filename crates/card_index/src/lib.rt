@@ -12,40 +12,26 @@ use card_table::row;
 fn is_application(kind: Kind) -> bool
     ensures { result ≡ is_application kind }
 {
-    match kind {
-        Kind::Plain => false,
-        Kind::AppCmd => false,
-        Kind::Application => true,
-    }
+    matches!(kind, Kind::Application)
 }
 
 fn takes(rca: Rca, own: bool) -> bool
     ensures { result ≡ takes rca own }
 {
     match rca {
-        Rca::Unused => true,
-        Rca::Addressed => true,
+        Rca::Unused | Rca::Addressed => true,
         Rca::Own => own,
         Rca::Other => !own,
     }
 }
 
+#[tactic(auto, unfolding(card::specs::Table::fits))]
 fn fits(command: Command, application: bool, index: u8, own: bool) -> bool
     ensures { result ≡ fits application index own command }
 {
     let found = row(command);
-    let kind = found.kind;
-    let rca = found.rca;
-    if found.index != index {
-        return false;
-    }
-    if is_application(kind) == application {
-        return takes(rca, own);
-    }
-    false
+    found.index == index && is_application(found.kind) == application && takes(found.rca, own)
 }
-
-const COMMANDS: usize = 32;
 
 // The first command with the index, or another.
 fn find(application: bool, index: u8, own: bool, other: Command) -> Command
@@ -85,33 +71,32 @@ fn find(application: bool, index: u8, own: bool, other: Command) -> Command
         Command::ReadOcr,
         Command::CrcOnOff,
     ];
-    let mut i = 0;
-    while i < COMMANDS {
-        let command = all[i];
+    for command in all {
         if fits(command, application, index, own) {
             return command;
         }
-        i += 1;
     }
     other
 }
 
 // The argument's RCA is the card's; in SPI mode it is not compared.
+#[tactic(auto, unfolding(card::specs::Table::own))]
 pub fn own(bus: Bus, argument: u32) -> bool
     ensures { result ≡ own bus argument }
 {
-    let mode = bus.mode;
-    in_spi(mode) | ((argument >> 16) == (bus.rca as u32))
+    in_spi(bus.mode) || (argument >> 16) == (bus.rca as u32)
 }
 
 // After 55 an index with an A row is that command, and others stay as they are.
+#[tactic(auto, unfolding(card::specs::Table::command_of))]
 pub fn command_of(bus: Bus, index: u8, argument: u32) -> Command
     ensures { result ≡ command_of bus index argument }
 {
     let mine = own(bus, argument);
     let plain = find(false, index, mine, Command::Unknown);
     if bus.app {
-        return find(true, index, mine, plain);
+        find(true, index, mine, plain)
+    } else {
+        plain
     }
-    plain
 }

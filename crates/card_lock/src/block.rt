@@ -2,16 +2,13 @@
 ghost use Rattle.std.specs.Prelude.{◌≡◌, get_or};
 ghost use Rattle.card.specs.Lock.{password_data, complete};
 
-use card_password::part::{behind, front};
+use codec::{behind, front};
 
 // 0 behind the end.
 pub(crate) fn byte_at(s: &[u8], i: usize) -> u8
     ensures { result ≡ get_or s.now i 0 }
 {
-    if i < s.len() {
-        return s[i];
-    }
-    0
+    s.get(i).copied().unwrap_or(0)
 }
 
 // As many bytes as PWDS_LEN says, behind it.

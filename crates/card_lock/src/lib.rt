@@ -10,40 +10,23 @@ mod block;
 use block::{byte_at, complete, data};
 use card::Password;
 use card::lock::Operation;
-use card_password::part::behind;
-use card_password::{is_set, matches, replaces, store};
-
-// Whether the operation succeeds, and the password behind it.
-#[derive(Clone, Copy)]
-pub struct Relocked {
-    pub success: bool,
-    pub password: Password,
-}
+use card_password::{is_set, matches, no_password, replaces, store};
+use codec::behind;
 
 // Bits 3..0: ERASE, LOCK_UNLOCK, CLR_PWD, SET_PWD.
+#[tactic(auto, unfolding(card::specs::Lock::operation_of))]
 fn operation_of(byte: u8) -> Operation
     ensures { result ≡ operation_of byte }
 {
-    let bits = byte % 16;
-    if bits == 8 {
-        return Operation::ForceErase;
+    match byte % 16 {
+        8 => Operation::ForceErase,
+        4 => Operation::Lock,
+        0 => Operation::Unlock,
+        2 => Operation::ClearPassword,
+        1 => Operation::SetPassword { lock: false },
+        5 => Operation::SetPassword { lock: true },
+        _ => Operation::Invalid,
     }
-    if bits == 4 {
-        return Operation::Lock;
-    }
-    if bits == 0 {
-        return Operation::Unlock;
-    }
-    if bits == 2 {
-        return Operation::ClearPassword;
-    }
-    if bits == 1 {
-        return Operation::SetPassword { lock: false };
-    }
-    if bits == 5 {
-        return Operation::SetPassword { lock: true };
-    }
-    Operation::Invalid
 }
 
 pub fn operation(payload: &[u8]) -> Operation
@@ -52,6 +35,7 @@ pub fn operation(payload: &[u8]) -> Operation
     operation_of(byte_at(payload, 0))
 }
 
+#[tactic(auto, unfolding(card::specs::Lock::succeeds))]
 fn succeeds(o: Operation, locked: bool, permanent: bool, password: Password, payload: &[u8]) -> bool
     ensures { result ≡ succeeds o locked permanent password payload.now }
 {
@@ -65,43 +49,31 @@ fn succeeds(o: Operation, locked: bool, permanent: bool, password: Password, pay
         Operation::Lock => !locked & (set & same),
         Operation::Unlock => locked & same,
         Operation::ClearPassword => set & same,
-        Operation::SetPassword { lock: _ } => new,
+        Operation::SetPassword { .. } => new,
         Operation::Invalid => false,
     }
 }
 
 // The password behind an operation that succeeds.
+#[tactic(auto, unfolding(card::specs::Lock::changed))]
 fn changed(o: Operation, password: Password, payload: &[u8]) -> Password
     requires { Room o password payload.now }
     ensures { result ≡ changed o password payload.now }
 {
-    let n = password.length as usize;
-    let none = Password {
-        bytes: [0u8; 16],
-        length: 0,
-    };
     match o {
-        Operation::ForceErase => none,
-        Operation::Lock => password,
-        Operation::Unlock => password,
-        Operation::ClearPassword => none,
-        Operation::SetPassword { lock: _ } => store(behind(data(payload), n)),
-        Operation::Invalid => password,
+        Operation::ForceErase | Operation::ClearPassword => no_password(),
+        Operation::Lock | Operation::Unlock | Operation::Invalid => password,
+        Operation::SetPassword { .. } => store(behind(data(payload), password.length as usize)),
     }
 }
 
-pub fn relock(locked: bool, permanent: bool, password: Password, payload: &[u8]) -> Relocked
+// The password behind the operation, or none where it does not succeed.
+pub fn relock(locked: bool, permanent: bool, password: Password, payload: &[u8]) -> Option<Password>
     ensures { result ≡ relocked (operation payload.now) locked permanent password payload.now }
 {
     let o = operation(payload);
     if succeeds(o, locked, permanent, password, payload) {
-        return Relocked {
-            success: true,
-            password: changed(o, password, payload),
-        };
+        return Some(changed(o, password, payload));
     }
-    Relocked {
-        success: false,
-        password,
-    }
+    None
 }

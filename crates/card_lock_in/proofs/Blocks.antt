@@ -18,16 +18,17 @@ use Rattle.card.specs.Status.{LOCK_UNLOCK_FAILED}
 use Rattle.card.specs.Protect.{whole}
 use Rattle.card.specs.Execute.{raise}
 use Rattle.card.specs.Effects.{stored, affected}
-use Rattle.card.specs.Lock.{operation}
+use Rattle.card.specs.Lock.{operation, changed}
 use Rattle.card.specs.Frame.{Turn, token, said}
 use Rattle.card.specs.Data.{ACCEPTED, acted, effect_of, operate}
 use Rattle.card_call.specs.declared.Stepped.{Stepped}
 use Rattle.card_call.specs.Seen.{Seen, returned, turned_with}
 use Rattle.card_call.proofs.Turns as Turns
 use Rattle.card_effect.specs.Apply.{reaches}
-use Rattle.card_lock.specs.declared.Relocked.{Relocked}
+use Rattle.std.specs.Prelude.{Option, Some, None}
+use Rattle.std.proofs.lemmas.Option.{cond_some, none-some}
 use Rattle.card_lock.specs.Relock.{relocked}
-use Rattle.card_lock_in.specs.Operates.{performed, succeeded, password_after, operated}
+use Rattle.card_lock_in.specs.Operates.{performed, succeeded, operated}
 
 -- no operation needs more memory than there is
 reached : (o : Operation) (n : ℕ) → reaches (effect_of o) 0 n ≡ true
@@ -55,23 +56,26 @@ performs card o r n d f all before memory marks k w m next same h =
     h
 
 -- as the password's side told
-module _ (card : Card) (s memory : List ℕ) (x : Relocked)
+module _ (card : Card) (s memory : List ℕ) (x : Option Password)
     (told : x ≡ relocked (operation s) card.core.locked card.core.settings.permanent card.password s) where
-  success : succeeded card s ≡ x.success
-  success = sym (ap (λ (y : Relocked). y.success) told)
-
-  pub succeeds_as : (o : Operation) (v : Seen) → x.success ≡ true → o ≡ operation s → v ≡ performed card o x.password memory
+  pub succeeds_as : (o : Operation) (p : Password) (v : Seen) → x ≡ Some p → o ≡ operation s → v ≡ performed card o p memory
       → v ≡ operated card s memory
-  succeeds_as o v e k h =
-      h ∙ ap₂ (λ (p : Operation) (left : Password). performed card p left memory) k (ap (λ (y : Relocked). y.password) told)
-      ∙ ap (λ (b : Bool). turned_with card (password_after card s) memory [] (cond b (operate (operation s) card.core) failed)) (sym (success ∙ e))
+  succeeds_as o p v e k h =
+      let now = changed (operation s) card.password s in
+      let both = cond_some (succeeded card s) now p (sym told ∙ e) in
+      h ∙ ap₂ (λ (q : Operation) (left : Password). performed card q left memory) k (sym both.1)
+      ∙ ap (λ (b : Bool). turned_with card (cond b now card.password) memory [] (cond b (operate (operation s) card.core) failed)) (sym both.0)
     where
       failed : Turn
       failed = said (with_state (raise card.core LOCK_UNLOCK_FAILED) Prg) (token ACCEPTED)
 
-  pub fails_as : (r : Stepped) (d : Core) → x.success ≡ false → d ≡ with_state (raise card.core LOCK_UNLOCK_FAILED) Prg
+  none : (b : Bool) (p : Password) → cond b (Some p) None ≡ None → b ≡ false
+  none true p e = absurd (none-some p (sym e))
+  none false p e = refl
+
+  pub fails_as : (r : Stepped) (d : Core) → x ≡ None → d ≡ with_state (raise card.core LOCK_UNLOCK_FAILED) Prg
       → r ≡ Turns.after card d Accepted → returned r memory [] ≡ operated card s memory
   unfolding affected
   fails_as r d e k h =
-      rw (success ∙ e)
+      rw (none (succeeded card s) (changed (operation s) card.password s) (sym told ∙ e))
       (Turns.operated r card d (with_state (raise card.core LOCK_UNLOCK_FAILED) Prg) Nothing [] memory memory card.core.marks [] k refl h)

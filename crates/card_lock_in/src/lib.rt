@@ -23,10 +23,8 @@ fn lock_of(o: Operation, locked: bool) -> bool
     ensures { result ≡ lock_of o locked }
 {
     match o {
-        Operation::ForceErase => false,
         Operation::Lock => true,
-        Operation::Unlock => false,
-        Operation::ClearPassword => false,
+        Operation::ForceErase | Operation::Unlock | Operation::ClearPassword => false,
         Operation::SetPassword { lock } => lock,
         Operation::Invalid => locked,
     }
@@ -37,11 +35,7 @@ fn effect_of(o: Operation) -> Effect
 {
     match o {
         Operation::ForceErase => Effect::ForceErase,
-        Operation::Lock => Effect::Nothing,
-        Operation::Unlock => Effect::Nothing,
-        Operation::ClearPassword => Effect::Nothing,
-        Operation::SetPassword { lock: _ } => Effect::Nothing,
-        Operation::Invalid => Effect::Nothing,
+        _ => Effect::Nothing,
     }
 }
 
@@ -49,16 +43,10 @@ fn effect_of(o: Operation) -> Effect
 fn acted(o: Operation, c: Core) -> Core
     ensures { result ≡ acted o c }
 {
-    let settings = c.settings;
-    let bare = without_temporary(settings);
     let next = with_locked(c, lock_of(o, c.locked));
     match o {
-        Operation::ForceErase => with_settings(next, bare),
-        Operation::Lock => next,
-        Operation::Unlock => next,
-        Operation::ClearPassword => next,
-        Operation::SetPassword { lock: _ } => next,
-        Operation::Invalid => next,
+        Operation::ForceErase => with_settings(next, without_temporary(c.settings)),
+        _ => next,
     }
 }
 
@@ -77,26 +65,26 @@ fn perform(card: Card, o: Operation, password: Password, memory: &mut [u8]) -> S
 fn operate(card: Card, payload: &[u8], memory: &mut [u8]) -> Stepped
     ensures { returned result memory.new [] ≡ operated card payload.now memory.old }
 {
-    let password = card.password;
-    let next = relock(
+    match relock(
         card.core.locked,
         card.core.settings.permanent,
-        password,
+        card.password,
         payload,
-    );
-    if next.success {
-        let left = next.password;
-        return perform(card, operation(payload), left, memory);
+    ) {
+        Some(password) => perform(card, operation(payload), password, memory),
+        None => {
+            let failed = with_state(raise(card.core, LOCK_UNLOCK_FAILED), State::Prg);
+            answered(card, failed, Answer::Accepted)
+        }
     }
-    let failed = with_state(raise(card.core, LOCK_UNLOCK_FAILED), State::Prg);
-    answered(card, failed, Answer::Accepted)
 }
 
 pub fn lock_into(card: Card, right: bool, payload: &[u8], memory: &mut [u8]) -> Stepped
     ensures { returned result memory.new [] ≡ lock_turned card right payload.now memory.old }
 {
     if right {
-        return operate(card, payload, memory);
+        operate(card, payload, memory)
+    } else {
+        answered(card, with_state(card.core, State::Tran), Answer::Rejected)
     }
-    answered(card, with_state(card.core, State::Tran), Answer::Rejected)
 }

@@ -6,10 +6,8 @@ ghost use Rattle.card.specs.Settings as Sizes;
 ghost use Rattle.card.specs.Soundness.{equal};
 ghost use Rattle.card.specs.Lock.{password_of, no_password, content, is_set, begins, matches, replaces};
 
-pub mod part;
-
 use card::Password;
-use part::front;
+use codec::front;
 
 // The most bytes of a password.
 const PASSWORD: usize = 16;
@@ -46,12 +44,10 @@ pub fn store(s: &[u8]) -> Password
 pub fn kept(password: Password) -> Password
     ensures { result ≡ password_of (content password) }
 {
-    let n = password.length as usize;
-    let bytes = password.bytes;
-    store(front(&bytes, n))
+    store(front(&password.bytes, password.length as usize))
 }
 
-// All bytes are looked at, so that the time does not tell how many are right.
+// All bytes are looked at, so that the time does not tell how many are right; `==` may stop at the first that is wrong.
 fn same(a: &[u8], b: &[u8]) -> bool
     ensures { result ≡ equal a.now b.now }
 {
@@ -59,10 +55,8 @@ fn same(a: &[u8], b: &[u8]) -> bool
         return false;
     }
     let mut right = true;
-    let mut i: usize = 0;
-    while i < a.len() {
-        right = right & (a[i] == b[i]);
-        i += 1;
+    for (x, y) in a.iter().zip(b) {
+        right = right & (x == y);
     }
     right
 }
@@ -72,11 +66,11 @@ fn begins(password: Password, given: &[u8]) -> bool
     ensures { result ≡ begins password given.now }
 {
     let n = password.length as usize;
-    let bytes = password.bytes;
-    same(front(given, n), front(&bytes, n))
+    same(front(given, n), front(&password.bytes, n))
 }
 
 // The password and nothing behind it.
+#[tactic(auto, unfolding(card::specs::Lock::matches))]
 pub fn matches(password: Password, given: &[u8]) -> bool
     ensures { result ≡ matches password given.now }
 {
@@ -84,6 +78,7 @@ pub fn matches(password: Password, given: &[u8]) -> bool
 }
 
 // The password, and behind it a new one.
+#[tactic(auto, unfolding(card::specs::Lock::replaces))]
 pub fn replaces(password: Password, given: &[u8]) -> bool
     ensures { result ≡ replaces password given.now }
 {

@@ -12,32 +12,32 @@ use card_call::{Stepped, answered, refused};
 use card_password::{is_set, kept, no_password};
 use card_record::erase::no_erase;
 use card_record::with_state;
-use card_refuse::{refusal, rows};
+use card_refuse::{check, rows};
 use card_settings::{allowed, capacity};
 use card_status::no_bits;
+use codec::Refusal;
 use reg_cid::cid::Cid;
 
 // What commands see of it.
 fn fresh(settings: Settings, locked: bool) -> Core
     ensures { result ≡ fresh settings locked }
 {
-    let bus = Bus {
-        mode: Mode::Sd,
-        state: State::Idle,
-        rca: 0,
-        published: 0,
-        polls: settings.polls,
-        app: false,
-    };
     Core {
-        settings: settings,
+        settings,
         csd: card_settings::csd_of(settings),
-        bus: bus,
+        bus: Bus {
+            mode: Mode::Sd,
+            state: State::Idle,
+            rca: 0,
+            published: 0,
+            polls: settings.polls,
+            app: false,
+        },
         kept: no_bits(),
         erase: no_erase(),
         length: BLOCK as u16,
         written: 0,
-        locked: locked,
+        locked,
         marks: [0u8; 256],
     }
 }
@@ -60,18 +60,10 @@ fn start(settings: Settings, password: Password) -> Card
 pub fn unpowered() -> Card
     ensures { result ≡ unpowered }
 {
-    let cid = Cid {
-        mid: 0,
-        oid: 0,
-        pnm: 0,
-        prv: 0,
-        psn: 0,
-        mdt: 0,
-    };
     let settings = Settings {
         blocks: 0,
         polls: 0,
-        cid: cid,
+        cid: Cid::default(),
         permanent: false,
         temporary: false,
     };
@@ -90,9 +82,8 @@ pub fn power_up(card: Card, settings: Settings, password: Password, memory: &[u8
         closed: false,
         settings: !(allowed(settings) & (password.length <= PASSWORD)),
     };
-    let n = refusal(&[3, 6], r);
-    if n != 0 {
-        return refused(card, n);
+    if let Err(refusal) = check(&[Refusal::Memory, Refusal::Setting], r) {
+        return refused(card, refusal);
     }
     Stepped {
         answer: Answer::Over,
@@ -104,9 +95,7 @@ pub fn power_up(card: Card, settings: Settings, password: Password, memory: &[u8
 pub fn busy_over(card: Card, memory: &[u8]) -> Stepped
     ensures { returned result memory.now [] ≡ stepped card memory.now busy_over }
 {
-    let bus = card.core.bus;
-    let state = bus.state;
-    let open = card_state::open(state);
+    let open = card_state::open(card.core.bus.state);
     let r = rows(
         card.core,
         card.password.length,
@@ -115,14 +104,13 @@ pub fn busy_over(card: Card, memory: &[u8]) -> Stepped
         false,
         !card_state::busy(open),
     );
-    let n = refusal(&[2, 3, 5], r);
-    if n != 0 {
-        return refused(card, n);
+    if let Err(refusal) = check(&[Refusal::Record, Refusal::Memory, Refusal::Closed], r) {
+        return refused(card, refusal);
     }
     match open {
         Open::Busy(next) => answered(card, with_state(card.core, next), Answer::Over),
-        Open::Nothing => answered(card, card.core, Answer::Silence),
-        Open::Read(_) => answered(card, card.core, Answer::Silence),
-        Open::Write(_) => answered(card, card.core, Answer::Silence),
+        Open::Nothing | Open::Read(_) | Open::Write(_) => {
+            answered(card, card.core, Answer::Silence)
+        }
     }
 }

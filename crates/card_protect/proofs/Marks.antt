@@ -1,6 +1,6 @@
 -- A bit of a byte made 1 or 0.
 use mathlib.Core.Path.{◌≡◌, refl, sym, ap, ap₂, ◌∙◌}
-use mathlib.Core.Bool.{Bool, true, false, not, false≢true, beq}
+use mathlib.Core.Bool.{Bool, true, false, not, beq}
 use mathlib.Core.List.{List}
 use Prim.Native.Nat.{ℕ, ◌+◌, ◌*◌, ◌/◌, ◌%◌, ◌^◌, ◌<◌, ◌≤◌}
 use native.Mathlib.Nat.{div-add-mod', mod-lt, add-mul, add-zero, zero-div}
@@ -26,9 +26,6 @@ module _ (k byte : ℕ) where
       let d : digit (bit byte k) * 2 ^ k ≡ q % 2 * 2 ^ k = ap (λ (n : ℕ). n * 2 ^ k) (digit-bit byte k) in
       omega (arith, div-add-mod' byte (2 ^ k))
 
-  pub put_same : byte ≡ put_bit (bit byte k) k byte
-  put_same = omega (arith, split)
-
   flipped : k < 8 → bit_xor byte (1 * 2 ^ k % 2 ^ 8) ≡ bit_xor (byte / 2 ^ k) 1 * 2 ^ k + byte % 2 ^ k
   flipped h =
       ap₂ bit_xor (sym (div-add-mod' byte (2 ^ k))) (shl_exact {a = 1} 1 k 8 (omega arith) (omega arith) ∙ sym (add-zero (1 * 2 ^ k)))
@@ -44,18 +41,12 @@ module _ (k byte : ℕ) where
       let y : bit_xor q 1 * 2 ^ k ≡ q / 2 * 2 * 2 ^ k + digit (not b) * 2 ^ k = ap (λ (n : ℕ). n * 2 ^ k) x ∙ add-mul (q / 2 * 2) (digit (not b)) (2 ^ k) in
       omega (arith, split, flipped h)
 
-pub beq_same : (a b : Bool) → beq a b ≡ true → b ≡ a
-beq_same true true e = refl
-beq_same true false e = e
-beq_same false true e = absurd (false≢true e)
-beq_same false false e = refl
-
 pub beq-other : (a b : Bool) → beq a b ≡ false → b ≡ not a
 beq-other true true e = e
 beq-other true false e = refl
 beq-other false true e = refl
 beq-other false false e = sym e
 
-pub past-marks : (marks : List ℕ) (group : ℕ) → length marks ≤ group / 8 → false ≡ marked marks group
-past-marks marks group h =
+pub past_marks : (marks : List ℕ) (group : ℕ) → length marks ≤ group / 8 → false ≡ marked marks group
+past_marks marks group h =
     sym (ap (λ (byte : ℕ). bit byte (group % 8)) (get_or-eq_default marks 0 h) ∙ ap (λ (n : ℕ). eqb (n % 2) 1) (zero-div (2 ^ (group % 8))))

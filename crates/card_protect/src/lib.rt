@@ -22,16 +22,17 @@ fn put_bit(value: bool, k: u32, byte: u8) -> u8
     ensures { result ≡ put_bit value k byte }
 {
     if bit(byte, k) == value {
-        return byte;
+        byte
+    } else {
+        byte ^ (1 << k)
     }
-    byte ^ (1 << k)
 }
 
 // The permanent or temporary bit protects every block.
 pub fn whole(permanent: bool, temporary: bool) -> bool
     ensures { result ≡ (permanent || temporary) }
 {
-    permanent | temporary
+    permanent || temporary
 }
 
 // The group of a byte address.
@@ -42,64 +43,51 @@ pub fn group_of(address: u32) -> u32
 }
 
 // A group behind the marks has none.
-fn marked_group(marks: &[u8], group: u64) -> bool
+#[tactic(auto, using(crate::proofs::Marks::past_marks))]
+pub fn marked(marks: &[u8], group: u64) -> bool
     ensures { result ≡ marked marks.now group }
 {
     let at = (group / 8) as usize;
-    if at >= marks.len() {
-        return false;
-    }
-    bit(marks[at], (group % 8) as u32)
+    at < marks.len() && bit(marks[at], (group % 8) as u32)
 }
 
-pub fn marked(marks: &[u8], group: u32) -> bool
-    ensures { result ≡ marked marks.now group }
-{
-    marked_group(marks, group as u64)
-}
-
-// Sets or clears the mark of a group.
+// Sets or clears the mark of a group. By index: with `get_mut` the proof did not close.
+#[tactic(auto, unfolding(card::specs::Protect::mark))]
 pub fn mark(value: bool, marks: &mut [u8], group: u32)
     ensures { marks.new ≡ mark value marks.old group }
 {
     let at = (group / 8) as usize;
-    if at >= marks.len() {
-        return;
+    if at < marks.len() {
+        marks[at] = put_bit(value, group % 8, marks[at]);
     }
-    marks[at] = put_bit(value, group % 8, marks[at]);
 }
 
 // The block at a byte address is protected, with the whole card or by its group.
+#[tactic(auto, unfolding(card::specs::Protect::guarded))]
 pub fn guarded(all: bool, marks: &[u8], address: u32) -> bool
     ensures { result ≡ guarded all marks.now address }
 {
-    if all {
-        return true;
-    }
-    marked(marks, group_of(address))
+    all || marked(marks, u64::from(group_of(address)))
 }
 
-// The same by the number of the block.
+// The same by the number of the block; by its address a product could be too large for one.
+#[tactic(auto, unfolding(card::specs::Protect::guarded))]
 pub fn guarded_block(all: bool, marks: &[u8], block: u64) -> bool
     ensures { result ≡ guarded all marks.now (block * Sizes.BLOCK) }
 {
-    if all {
-        return true;
-    }
-    marked_group(marks, block / GROUP as u64)
+    all || marked(marks, block / u64::from(GROUP))
 }
 
 // Some of so many blocks from a number on is protected.
 pub fn any_guarded(all: bool, marks: &[u8], first: u32, count: u32) -> bool
     ensures { result ≡ any_guarded all marks.now first count }
 {
-    let mut block: u64 = first as u64;
-    let end: u64 = block + count as u64;
-    while block < end {
+    let start = first as u64;
+    let end = start + count as u64;
+    for block in start..end {
         if guarded_block(all, marks, block) {
             return true;
         }
-        block += 1;
     }
     false
 }
@@ -108,20 +96,14 @@ pub fn any_guarded(all: bool, marks: &[u8], first: u32, count: u32) -> bool
 fn shown(count: u64, marks: &[u8], group: u64) -> bool
     ensures { result ≡ (ltb group count && marked marks.now group) }
 {
-    if group >= count {
-        return false;
-    }
-    marked_group(marks, group)
+    group < count && marked(marks, group)
 }
 
 // A word with one bit more behind it.
 fn append(word: u32, value: bool) -> u32
     ensures { (j : ℕ) → j + 1 ≤ 32 → bits (j + 1) result ≡ bits j word ++ (value ∷ []) }
 {
-    if value {
-        return (word << 1) | 1;
-    }
-    word << 1
+    if value { (word << 1) | 1 } else { word << 1 }
 }
 
 // The marks of 32 groups from that of an address on, the lowest bit first; groups past the end read 0.
@@ -131,9 +113,7 @@ pub fn mark_word(blocks: u32, marks: &[u8], address: u32) -> u32
     let count = groups(blocks);
     let group = group_of(address) as u64;
     let mut word: u32 = 0;
-    let mut k: u64 = 32;
-    while k > 0 {
-        k -= 1;
+    for k in (0..32u64).rev() {
         word = append(word, shown(count, marks, group + k));
     }
     word

@@ -10,28 +10,28 @@ use card_run::run;
 use card_start::done::ran;
 use card_table::{accepts, legal, misses};
 
+#[tactic(auto, unfolding(card::specs::Frame::judge))]
 pub fn judge(c: Core, index: u8, argument: u32) -> Judged
     ensures { result ≡ judge c index argument }
 {
-    let bus = c.bus;
-    let command = command_of(bus, index, argument);
-    if !(accepts(command, c.locked) & legal(command, bus)) {
+    let command = command_of(c.bus, index, argument);
+    if !(accepts(command, c.locked) && legal(command, c.bus)) {
         return Judged {
             verdict: Verdict::NotAllowed,
-            command: command,
+            command,
             done: ran(c, Response::Nothing),
         };
     }
-    if misses(command, own(bus, argument)) {
+    if misses(command, own(c.bus, argument)) {
         return Judged {
             verdict: Verdict::OtherCard,
-            command: command,
+            command,
             done: ran(c, Response::Nothing),
         };
     }
     Judged {
         verdict: Verdict::Ran,
-        command: command,
+        command,
         done: run(command, settled(command, c), argument),
     }
 }

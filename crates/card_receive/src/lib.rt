@@ -16,13 +16,13 @@ use sd::receive_sd;
 use spi::receive_spi;
 
 // `low`: chip select is low, which SPI mode does not look at.
+#[tactic(auto, unfolding(card::specs::Receive::receive))]
 pub fn receive(c: Core, low: bool, frame: &[u8]) -> Turned
     ensures { turned result ≡ receive c low frame.now }
 {
-    let bus = c.bus;
-    let mode = bus.mode;
-    if in_spi(mode) {
-        return receive_spi(c, frame);
+    if in_spi(c.bus.mode) {
+        receive_spi(c, frame)
+    } else {
+        receive_sd(c, low, frame)
     }
-    receive_sd(c, low, frame)
 }

@@ -4,28 +4,23 @@ ghost use Rattle.card.specs.Receive.{receive_sd};
 ghost use Rattle.card_turn.specs.Turned.{turned};
 
 use crate::judge::judge;
-use card::Core;
 use card::done::Flag;
+use card::{Core, State};
 use card_finish::show_sd;
 use card_turn::{Turned, quiet};
-use wire_frame::command::FrameCheck;
-
-// the number of ina
-const INA: u8 = 9;
+use wire_frame::command::Fault;
 
 // `low`: chip select is low.
+#[tactic(auto, unfolding(card::specs::Receive::receive_sd, card::specs::Receive::by_check))]
 pub fn receive_sd(c: Core, low: bool, frame: &[u8]) -> Turned
     ensures { turned result ≡ receive_sd c low frame.now }
 {
-    let bus = c.bus;
-    let state = bus.state;
-    if card_state::number(state) == INA {
+    if matches!(c.bus.state, State::Ina) {
         return quiet(c, Flag::Keep);
     }
     match wire_frame::command::check(frame) {
-        FrameCheck::Good { index, argument } => show_sd(c, low, judge(c, index, argument)),
-        FrameCheck::Size => quiet(c, Flag::Keep),
-        FrameCheck::Start => quiet(c, Flag::Keep),
-        FrameCheck::Check => quiet(c, Flag::Set),
+        Ok(fields) => show_sd(c, low, judge(c, fields.index, fields.argument)),
+        Err(Fault::Size | Fault::Start) => quiet(c, Flag::Keep),
+        Err(Fault::Check) => quiet(c, Flag::Set),
     }
 }

@@ -7,23 +7,18 @@ use crate::judge::judge;
 use card::Core;
 use card::done::Flag;
 use card_spi::byte::crc_error;
-use card_spi::{in_idle, show_spi};
-use card_state::checking;
+use card_spi::show_spi;
+use card_state::{checking, in_idle};
 use card_turn::{Turned, error, quiet};
-use wire_frame::command::{FrameCheck, check_by};
+use wire_frame::command::{Fault, check_by};
 
+#[tactic(auto, unfolding(card::specs::Receive::by_check_spi))]
 pub fn receive_spi(c: Core, frame: &[u8]) -> Turned
     ensures { turned result ≡ receive_spi c frame.now }
 {
-    let bus = c.bus;
-    let mode = bus.mode;
-    match check_by(checking(mode), frame) {
-        FrameCheck::Good { index, argument } => show_spi(c, judge(c, index, argument)),
-        FrameCheck::Size => quiet(c, Flag::Keep),
-        FrameCheck::Start => quiet(c, Flag::Keep),
-        FrameCheck::Check => {
-            let state = bus.state;
-            error(c, crc_error(in_idle(state)))
-        }
+    match check_by(checking(c.bus.mode), frame) {
+        Ok(fields) => show_spi(c, judge(c, fields.index, fields.argument)),
+        Err(Fault::Size | Fault::Start) => quiet(c, Flag::Keep),
+        Err(Fault::Check) => error(c, crc_error(in_idle(c.bus.state))),
     }
 }

@@ -1,34 +1,15 @@
 // The addresses that 32 and 33 gave.
 ghost use Rattle.std.specs.Prelude.{◌≡◌, ◌||◌};
-ghost use Rattle.card.specs.Record.{no_erase, is_set, address};
+ghost use Rattle.card.specs.Record.{no_erase, is_set};
 
-use card::{EraseMark, EraseMarks};
-
-pub fn is_set(m: EraseMark) -> bool
-    ensures { result ≡ is_set m }
-{
-    match m {
-        EraseMark::Unset => false,
-        EraseMark::At(_) => true,
-    }
-}
-
-// The address of a mark; 0 where there is none.
-pub fn address(m: EraseMark) -> u32
-    ensures { result ≡ address m }
-{
-    match m {
-        EraseMark::Unset => 0,
-        EraseMark::At(a) => a,
-    }
-}
+use card::EraseMarks;
 
 pub fn no_erase() -> EraseMarks
     ensures { result ≡ no_erase }
 {
     EraseMarks {
-        first: EraseMark::Unset,
-        second: EraseMark::Unset,
+        first: None,
+        second: None,
     }
 }
 
@@ -36,7 +17,5 @@ pub fn no_erase() -> EraseMarks
 pub fn pending(e: EraseMarks) -> bool
     ensures { result ≡ (is_set e.first || is_set e.second) }
 {
-    let first = e.first;
-    let second = e.second;
-    is_set(first) | is_set(second)
+    e.first.is_some() || e.second.is_some()
 }

@@ -1,33 +1,40 @@
 -- The rows of a call one after the other.
-use mathlib.Core.Path.{◌≡◌, ◌∙◌}
-use mathlib.Core.Bool.{true, false, false≢true}
-use mathlib.Core.List.{List}
+use mathlib.Core.Path.{◌≡◌, refl, ◌∙◌}
+use mathlib.Core.Bool.{true, false}
+use mathlib.Core.List.{List, map}
 use mathlib.Core.Option.{none, some}
-use Prim.Native.Nat.{ℕ, zero, suc, ◌+◌, ◌≤◌, ◌<◌}
+use Prim.Native.Nat.{ℕ, ◌+◌, ◌≤◌, ◌<◌}
 use native.Mathlib.Numerals.{add-one}
-use native.Mathlib.Omega.{arith}
-use borrow.Author.Tests.{ne_eqb}
 use lib.ListN.{length, get_or, drop, drop_of_length-le}
 use lib.Seq.{drop-cons}
 use Rattle.card.specs.declared.answer.Rows.{Rows}
 use Rattle.card.specs.Step.{applies, refusal}
-use Rattle.codec.specs.Answer.{nonzero}
+use Rattle.codec.specs.Answer.{row_of, nonzero}
+use Rattle.codec.specs.declared.Refusal.{Refusal}
+use Rattle.codec.specs.declared.Refusal.TheVariants.{Size, Record, Memory, Buffer, Closed, Setting, Wrong, Field}
 
 -- no row has number 0
-pub applied : (r : Rows) (n : ℕ) → applies r n ≡ true → nonzero n ≡ some n
-unfolding applies
-applied r zero e = absurd (false≢true e)
-applied r (suc n) e = rw (ne_eqb (suc n) 0 (λ z. omega arith))
+pub numbered : (e : Refusal) → nonzero (row_of e) ≡ some (row_of e)
+numbered Size = refl
+numbered Record = refl
+numbered Memory = refl
+numbered Buffer = refl
+numbered Closed = refl
+numbered Setting = refl
+numbered Wrong = refl
+numbered Field = refl
 
-module _ (ns : List ℕ) (r : Rows) (i : ℕ) where
-  pub row-applies : i < length ns → applies r (get_or ns i 0) ≡ true → nonzero (get_or ns i 0) ≡ refusal (drop i ns) r
+module _ (order : List Refusal) (r : Rows) (i : ℕ) (d : Refusal) where
+  pub row-applies : i < length order → applies r (row_of (get_or order i d)) ≡ true
+      → nonzero (row_of (get_or order i d)) ≡ refusal (map row_of (drop i order)) r
   unfolding refusal
-  row-applies h e = applied r (get_or ns i 0) e ∙ rw (drop-cons ns i 0 h, e)
+  row-applies h e = numbered (get_or order i d) ∙ rw (drop-cons order i d h, e)
 
-  pub row-passes : i < length ns → applies r (get_or ns i 0) ≡ false → refusal (drop i ns) r ≡ refusal (drop (i + 1) ns) r
+  pub row-passes : i < length order → applies r (row_of (get_or order i d)) ≡ false
+      → refusal (map row_of (drop i order)) r ≡ refusal (map row_of (drop (i + 1) order)) r
   unfolding refusal
-  row-passes h e = rw (add-one, drop-cons ns i 0 h, e)
+  row-passes h e = rw (add-one, drop-cons order i d h, e)
 
-  pub rows-over : length ns ≤ i → none ≡ refusal (drop i ns) r
-  unfolding refusal
-  rows-over h = rw (drop_of_length-le ns {i = i} h)
+pub rows-over : (order : List Refusal) (r : Rows) (i : ℕ) → length order ≤ i → none ≡ refusal (map row_of (drop i order)) r
+unfolding refusal
+rows-over order r i h = rw (drop_of_length-le order {i = i} h)

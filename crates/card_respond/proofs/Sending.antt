@@ -4,7 +4,8 @@ use native.Mathlib.Nat.{mod-mod}
 use lib.Pow.{mod-mod-pow}
 use Rattle.crc.specs.Bits.{bits, number, bytes}
 use Rattle.crc.proofs.Bits.{bits_cong}
-use Rattle.codec.specs.declared.Encoded.{Encoded}
+use Rattle.std.specs.Prelude.{Result}
+use Rattle.codec.specs.declared.Refusal.{Refusal}
 use Rattle.codec.specs.Answer.{Encoding, encoding, encoded, emit, done}
 use Rattle.codec.specs.Layout.{write, fits}
 use Rattle.codec.specs.Format.{Format, encode, image, ended, crc7_from}
@@ -19,14 +20,14 @@ use Rattle.card_call.specs.Replied.{replied}
 use Rattle.card_respond.specs.declared.Behind.{Behind}
 use Rattle.card_respond.specs.Sent.{behind, Sends, Shows}
 
-pub sends : (f : Format) (vs s out after : List ℕ) (e : Encoded) (a : Answer) → encoding e after ≡ encode f vs out → 17 ≤ length out
+pub sends : (f : Format) (vs s out after : List ℕ) (e : Result ℕ Refusal) (a : Answer) → encoding e after ≡ encode f vs out → 17 ≤ length out
     → fits f.slots vs ≡ true → image f vs ≡ s → answer a ≡ replied (encoded e) → Sends s out after a
 unfolding encode
 sends f vs s out after e a h room fit im said =
     let g : encoding e after ≡ emit s out = h ∙ rw (le-ltb (length out) 17 room, fit) (ap (λ (x : List ℕ). emit x out) im) in
     record { count = said ∙ ap (λ (x : Encoding). replied x.answer) g; buffer = ap (λ (x : Encoding). x.buffer) g }
 
-pub sends-r2 : (register out after : List ℕ) (e : Encoded) (a : Answer) → encoding e after ≡ encode_r2 register out → length register ≡ 16
+pub sends-r2 : (register out after : List ℕ) (e : Result ℕ Refusal) (a : Answer) → encoding e after ≡ encode_r2 register out → length register ≡ 16
     → 17 ≤ length out → answer a ≡ replied (encoded e) → Sends (r2_bytes register) out after a
 unfolding encode_r2
 sends-r2 register out after e a h l room said =

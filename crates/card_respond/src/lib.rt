@@ -14,11 +14,12 @@ use card::Core;
 use card::answer::Answer;
 use card::done::Response;
 use card_call::report;
+use codec::Refusal;
 use wire_response::status::short_status;
 use wire_response::{encode_r1, encode_r2, encode_r3, encode_r6, encode_r7};
 
 // What stands behind R1 in SPI mode.
-#[derive(Clone, Copy)]
+#[derive(Clone, Copy, Debug, PartialEq, Eq)]
 pub enum Behind {
     Nothing,
     // the second byte of R2
@@ -49,11 +50,14 @@ fn shown(crc: bool, word: u32) -> u32
     ensures { result ≡ shown crc word % 2 ^ 32 }
 {
     if crc {
-        return std::num::wrapping_add_u32(word, 0x0080_0000);
+        word.wrapping_add(0x0080_0000)
+    } else {
+        word
     }
-    word
 }
 
+// The room is a clause of each: an array of 17 bytes would say it once, but the encoders take any slice, and the buffer would be
+// cut and joined again for it.
 fn send_r1(index: u8, word: u32, crc: bool, out: &mut [u8]) -> Answer
     requires { 17 ≤ length out.old }
     ensures { Sends (image (r1 index) (shown crc word ∷ [])) out.old out.new result }
@@ -99,21 +103,15 @@ fn emit_sd(response: Response, index: u8, word: u32, c: Core, crc: bool, out: &m
         Response::Nothing => Answer::Silence,
         Response::R1 => send_r1(index, word, crc, out),
         Response::R6 => send_r6(c.bus.rca, word, crc, out),
-        Response::Cid => {
-            let settings = c.settings;
-            let cid = settings.cid;
-            send_r2(reg_cid::cid::sixteen(cid), out)
-        }
-        Response::Csd => {
-            let own = c.csd;
-            send_r2(reg_csd::sixteen(own), out)
-        }
+        Response::Cid => send_r2(reg_cid::cid::sixteen(c.settings.cid), out),
+        Response::Csd => send_r2(reg_csd::sixteen(c.csd), out),
         Response::R3(ocr) => send_r3(ocr, out),
         Response::R7 { voltage, pattern } => {
             if voltage == 0 {
-                return Answer::Silence;
+                Answer::Silence
+            } else {
+                send_r7(voltage, pattern, out)
             }
-            send_r7(voltage, pattern, out)
         }
     }
 }
@@ -122,10 +120,7 @@ fn emit_sd(response: Response, index: u8, word: u32, c: Core, crc: bool, out: &m
 fn shown_r1(crc: bool, r1: u8) -> u8
     ensures { result ≡ at COM_CRC_ERROR crc + r1 % 2 ^ 7 }
 {
-    if crc {
-        return r1 % 128 + 0x08;
-    }
-    r1 % 128
+    if crc { r1 % 128 + 0x08 } else { r1 % 128 }
 }
 
 // R1, R2, R3 and R7 of SPI mode.
@@ -167,7 +162,7 @@ pub fn respond(m: Message, c: Core, crc: bool, out: &mut [u8]) -> Answer
     ensures { responded (answer result) out.new ≡ on_line crc (message c m) out.old }
 {
     if out.len() < 17 {
-        return Answer::Refused(codec::BUFFER);
+        return Answer::Refused(Refusal::Buffer);
     }
     emit(m, c, crc, out)
 }

@@ -18,6 +18,7 @@ use card_transfer::{
 };
 
 // With what its argument is as an address.
+#[tactic(auto, unfolding(card::specs::Execute::run_at))]
 fn run_at(command: Command, c: Core, argument: u32, a: u32) -> Done
     ensures { result ≡ run_at command c argument a }
 {
@@ -31,8 +32,6 @@ fn run_at(command: Command, c: Core, argument: u32, a: u32) -> Done
         Command::SendCsd => send(Command::SendCsd, c, Source::Csd, Response::Csd),
         Command::SendCid => send(Command::SendCid, c, Source::Cid, Response::Cid),
         Command::StopTransmission => moving(Command::StopTransmission, c, Response::R1),
-        Command::SendStatus => ran(c, Response::R1),
-        Command::AppCmd => ran(c, Response::R1),
         Command::GoInactiveState => moving(Command::GoInactiveState, c, Response::Nothing),
         Command::SetBlocklen => set_blocklen(c, argument),
         Command::ReadSingleBlock => read_blocks(Command::ReadSingleBlock, c, false, a),
@@ -54,8 +53,10 @@ fn run_at(command: Command, c: Core, argument: u32, a: u32) -> Done
             Response::R1,
         ),
         Command::SendScr => send(Command::SendScr, c, Source::Scr, Response::R1),
-        Command::SetWrBlkEraseCount => ran(c, Response::R1),
-        Command::SetClrCardDetect => ran(c, Response::R1),
+        Command::SendStatus
+        | Command::AppCmd
+        | Command::SetWrBlkEraseCount
+        | Command::SetClrCardDetect => ran(c, Response::R1),
         Command::SdSendOpCond => sd_send_op_cond(c, argument),
         Command::ReadOcr => read_ocr(c),
         Command::CrcOnOff => crc_on_off(c, argument),

@@ -10,8 +10,8 @@ use borrow.Author.Tests.{le-leb, lt-ltb, le-ltb, ltb-true, ltb-false, leb-true}
 use lib.Dec.{leb, ltb}
 use lib.ListN.{length, take, drop, set}
 use lib.Seq.{take-length, drop-length}
-use Rattle.codec.specs.declared.Encoded.{Encoded}
-use Rattle.codec.specs.declared.Encoded.TheVariants.{Wrote, Refused}
+use Rattle.std.specs.Prelude.{Result, Ok, Err}
+use Rattle.codec.specs.declared.Refusal.{Refusal}
 use Rattle.codec.specs.Answer.{Outcome, done, refused, SIZE, BUFFER, Encoding, encoding, refuse, emit}
 use Rattle.wire_packet.specs.Packet.{PAYLOAD, CHECK, packet, encode_packet}
 use Rattle.wire_packet.proofs.Emitted.{length-packet}
@@ -92,33 +92,33 @@ no_more t made =
 abbrev around : List ℕ → List ℕ → List ℕ
 around out made = put_mid 1 (length out - 1) out made
 
-abbrev Told : List ℕ → List ℕ → Encoded → List ℕ → Type 0
+abbrev Told : List ℕ → List ℕ → Result ℕ Refusal → List ℕ → Type 0
 Told payload out e made = encoding e made ≡ encode_packet payload (take (length out - 1) (drop 1 out))
 
-pub few-wrote : (payload out : List ℕ) (e : Encoded) (made : List ℕ) (n : ℕ) → Told payload out e made → e ≡ Wrote n → n ≤ PAYLOAD + CHECK
+pub few-wrote : (payload out : List ℕ) (e : Result ℕ Refusal) (made : List ℕ) (n : ℕ) → Told payload out e made → e ≡ Ok n → n ≤ PAYLOAD + CHECK
 unfolding count
 few-wrote payload out e made n told k =
     let same : n ≡ count (encode_packet payload (take (length out - 1) (drop 1 out))).answer =
-    sym (ap (λ (y : Encoded). count (encoding y made).answer) k) ∙ ap (λ (y : Encoding). count y.answer) told in
+    sym (ap (λ (y : Result ℕ Refusal). count (encoding y made).answer) k) ∙ ap (λ (y : Encoding). count y.answer) told in
     omega (arith, few payload (take (length out - 1) (drop 1 out)))
 
-as_led : (payload t : List ℕ) (x : ℕ) (e f : Encoded) (made : List ℕ) → Told payload (x ∷ t) e made → e ≡ f
+as_led : (payload t : List ℕ) (x : ℕ) (e f : Result ℕ Refusal) (made : List ℕ) → Told payload (x ∷ t) e made → e ≡ f
     → led x (encoding f made) ≡ encode_block true payload (x ∷ t)
 as_led payload t x e f made told k =
-    ap (λ (y : Encoded). led x (encoding y made)) (sym k)
+    ap (λ (y : Result ℕ Refusal). led x (encoding y made)) (sym k)
     ∙ ap (led x) (told ∙ ap (encode_packet payload) (tail t))
     ∙ leads payload t x
 
-pub wrote : (payload out : List ℕ) (e : Encoded) (made : List ℕ) (n : ℕ) → (length out ≡ 0 → ⊥) → Told payload out e made → e ≡ Wrote n
-    → encoding (Wrote (n + 1)) (set (around out made) 0 START_BLOCK) ≡ encode_block true payload out
+pub wrote : (payload out : List ℕ) (e : Result ℕ Refusal) (made : List ℕ) (n : ℕ) → (length out ≡ 0 → ⊥) → Told payload out e made → e ≡ Ok n
+    → encoding (Ok (n + 1)) (set (around out made) 0 START_BLOCK) ≡ encode_block true payload out
 unfolding behind
 wrote payload [] e made n some told k = absurd (some refl)
 wrote payload (x ∷ t) e made n some told k =
-    ap (λ (s : List ℕ). encoding (Wrote (n + 1)) (START_BLOCK ∷ s)) (no_more t made) ∙ as_led payload t x e (Wrote n) made told k
+    ap (λ (s : List ℕ). encoding (Ok (n + 1)) (START_BLOCK ∷ s)) (no_more t made) ∙ as_led payload t x e (Ok n) made told k
 
-pub refused_as : (payload out : List ℕ) (e : Encoded) (made : List ℕ) (n : ℕ) → (length out ≡ 0 → ⊥) → Told payload out e made → e ≡ Refused n
-    → encoding (Refused n) (around out made) ≡ encode_block true payload out
+pub refused_as : (payload out : List ℕ) (e : Result ℕ Refusal) (made : List ℕ) (n : Refusal) → (length out ≡ 0 → ⊥) → Told payload out e made → e ≡ Err n
+    → encoding (Err n) (around out made) ≡ encode_block true payload out
 unfolding behind
 refused_as payload [] e made n some told k = absurd (some refl)
 refused_as payload (x ∷ t) e made n some told k =
-    ap (λ (s : List ℕ). encoding (Refused n) (x ∷ s)) (no_more t made) ∙ as_led payload t x e (Refused n) made told k
+    ap (λ (s : List ℕ). encoding (Err n) (x ∷ s)) (no_more t made) ∙ as_led payload t x e (Err n) made told k

@@ -2,7 +2,8 @@
 use mathlib.Core.Path.{◌≡◌, ap, ◌∙◌}
 use mathlib.Core.List.{List}
 use Prim.Native.Nat.{ℕ}
-use Rattle.codec.specs.declared.Encoded.{Encoded}
+use Rattle.std.specs.Prelude.{Result}
+use Rattle.codec.specs.declared.Refusal.{Refusal}
 use Rattle.codec.specs.Answer.{Outcome, Encoding, encoded, encoding}
 use Rattle.card.specs.declared.answer.Answer.{Answer}
 use Rattle.card.specs.declared.State.{State}
@@ -16,7 +17,7 @@ use Rattle.card_call.proofs.Turns.{after}
 use Rattle.card_send.specs.Sending.{sending, sent}
 
 module _ (r : Stepped) (card : Card) (memory made : List ℕ) where
-  pub sent_as : (a : Answer) (d core : Core) (e : Encoded) (x : Encoding) → r ≡ after card d a → answer a ≡ replied (encoded e) → d ≡ core
+  pub sent_as : (a : Answer) (d core : Core) (e : Result ℕ Refusal) (x : Encoding) → r ≡ after card d a → answer a ≡ replied (encoded e) → d ≡ core
       → encoding e made ≡ x → returned r memory made ≡ sending card core memory x
   sent_as a d core e x p q s h =
       ap (λ (y : Stepped). returned y memory made) (p ∙ ap (λ (y : Core). after card y a) s)

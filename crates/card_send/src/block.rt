@@ -4,26 +4,21 @@ ghost use Rattle.codec.specs.Answer.{encoding};
 ghost use Rattle.card_send.specs.Sending.{encode_block};
 
 use card_token::START_BLOCK;
-use codec::Encoded;
+use codec::Refusal;
 
 // The token is written last: a refusal leaves the buffer.
-fn encode_led(payload: &[u8], out: &mut [u8]) -> Encoded
+fn encode_led(payload: &[u8], out: &mut [u8]) -> Result<usize, Refusal>
     ensures { encoding result out.new ≡ encode_block true payload.now out.old }
 {
-    if out.len() == 0 {
+    if out.is_empty() {
         return wire_packet::encode(payload, out);
     }
-    let e = wire_packet::encode(payload, &mut out[1..]);
-    match e {
-        Encoded::Wrote(n) => {
-            out[0] = START_BLOCK;
-            Encoded::Wrote(n + 1)
-        }
-        Encoded::Refused(k) => Encoded::Refused(k),
-    }
+    let n = wire_packet::encode(payload, &mut out[1..])?;
+    out[0] = START_BLOCK;
+    Ok(n + 1)
 }
 
-pub(crate) fn encode_block(spi: bool, payload: &[u8], out: &mut [u8]) -> Encoded
+pub(crate) fn encode_block(spi: bool, payload: &[u8], out: &mut [u8]) -> Result<usize, Refusal>
     ensures { encoding result out.new ≡ encode_block spi payload.now out.old }
 {
     if spi {

@@ -24,9 +24,7 @@ pub fn send(card: Card, next: State, payload: &[u8], out: &mut [u8]) -> Stepped
         → returned result memory out.new
         ≡ sent card next payload.now memory out.old }
 {
-    let bus = card.core.bus;
-    let mode = bus.mode;
-    let answer = report(encode_block(in_spi(mode), payload, out));
+    let answer = report(encode_block(in_spi(card.core.bus.mode), payload, out));
     answered(card, with_state(card.core, next), answer)
 }
 
@@ -46,26 +44,25 @@ pub fn send_marks(card: Card, address: u32, out: &mut [u8]) -> Stepped
     ensures { (memory : List ℕ)
         → returned result memory out.new ≡ sent card Tran (mark_bytes card.core address) memory out.old }
 {
-    let marks = card.core.marks;
-    let word = mark_word(card.core.settings.blocks, &marks, address);
+    let word = mark_word(card.core.settings.blocks, &card.core.marks, address);
     send_word(card, word, out)
 }
+
+// These answers are a line or two over `send` each, which one function with a payload for each source would not be.
 
 // The SD status is all zero.
 pub fn send_status(card: Card, out: &mut [u8]) -> Stepped
     ensures { (memory : List ℕ)
         → returned result memory out.new ≡ sent card Tran (replicate 64 0) memory out.old }
 {
-    let payload: [u8; 64] = [0; 64];
-    send(card, State::Tran, &payload, out)
+    send(card, State::Tran, &[0; 64], out)
 }
 
 pub fn send_scr(card: Card, out: &mut [u8]) -> Stepped
     ensures { (memory : List ℕ)
         → returned result memory out.new ≡ sent card Tran scr_bytes memory out.old }
 {
-    let payload: [u8; 8] = [2, 1, 0, 0, 0, 0, 0, 0];
-    send(card, State::Tran, &payload, out)
+    send(card, State::Tran, &[2, 1, 0, 0, 0, 0, 0, 0], out)
 }
 
 // 9 and 10 in SPI mode.
@@ -74,8 +71,7 @@ pub fn send_csd(card: Card, out: &mut [u8]) -> Stepped
     ensures { (memory : List ℕ)
         → returned result memory out.new ≡ sent card Tran (csd_bytes card.core.csd) memory out.old }
 {
-    let register = card.core.csd;
-    let csd = reg_csd::sixteen(register);
+    let csd = reg_csd::sixteen(card.core.csd);
     send(card, State::Tran, &csd, out)
 }
 
@@ -83,8 +79,7 @@ pub fn send_cid(card: Card, out: &mut [u8]) -> Stepped
     ensures { (memory : List ℕ)
         → returned result memory out.new ≡ sent card Tran (cid_bytes card.core.settings) memory out.old }
 {
-    let register = card.core.settings.cid;
-    let cid = reg_cid::cid::sixteen(register);
+    let cid = reg_cid::cid::sixteen(card.core.settings.cid);
     send(card, State::Tran, &cid, out)
 }
 
@@ -93,8 +88,8 @@ pub fn hold(card: Card, bit: u8, multiple: bool, address: u32) -> Stepped
     ensures { (memory out : List ℕ) → returned result memory out ≡ turned card memory out (hold_read card.core multiple address bit) }
 {
     let held = State::Data(Source::Blocks {
-        multiple: multiple,
-        address: address,
+        multiple,
+        address,
         held: true,
     });
     answered(

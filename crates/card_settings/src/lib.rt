@@ -7,12 +7,12 @@ ghost use Rattle.card.specs.Settings.{address_of, allowed, csd_of};
 ghost use Rattle.card.specs.Settings as Sizes;
 ghost use Rattle.card.specs.Data.{without_temporary};
 
-mod pair;
 pub mod register;
 
 use card::Settings;
 use card::size::{BLOCK, GROUP};
 use reg_csd::Csd;
+use reg_size::{SizePair, size_pair};
 
 // Limits of the block count and of the start polls.
 pub const LEAST: u32 = 4;
@@ -42,30 +42,25 @@ pub fn address_of(argument: u32) -> u32
     argument
 }
 
+#[tactic(auto, unfolding(card::specs::Settings::allowed))]
 pub fn allowed(s: Settings) -> bool
     ensures { result ≡ allowed s }
 {
-    if s.blocks < LEAST {
-        return false;
-    }
-    if s.blocks > MOST {
-        return false;
-    }
-    if !pair::is_pair(reg_size::size_pair(s.blocks)) {
-        return false;
-    }
-    if s.polls > POLLS {
-        return false;
-    }
-    let cid = s.cid;
-    reg_cid::cid::fit(cid)
+    s.blocks >= LEAST
+        && s.blocks <= MOST
+        && size_pair(s.blocks).is_some()
+        && s.polls <= POLLS
+        && reg_cid::cid::fit(s.cid)
 }
 
 // The CSD that the card gives.
 pub fn csd_of(s: Settings) -> Csd
     ensures { result ≡ csd_of s }
 {
-    let p = reg_size::size_pair(s.blocks);
+    let pair = size_pair(s.blocks).unwrap_or(SizePair {
+        c_size: 0,
+        c_size_mult: 0,
+    });
     Csd {
         csd_structure: 0,
         taac: 0x26,
@@ -77,12 +72,12 @@ pub fn csd_of(s: Settings) -> Csd
         write_blk_misalign: false,
         read_blk_misalign: false,
         dsr_imp: false,
-        c_size: pair::size(p),
+        c_size: pair.c_size,
         vdd_r_curr_min: 0,
         vdd_r_curr_max: 0,
         vdd_w_curr_min: 0,
         vdd_w_curr_max: 0,
-        c_size_mult: pair::mult(p),
+        c_size_mult: pair.c_size_mult,
         erase_blk_en: true,
         sector_size: GROUP as u8 - 1,
         wp_grp_size: 0,
@@ -102,7 +97,8 @@ pub fn csd_of(s: Settings) -> Csd
 pub fn without_temporary(s: Settings) -> Settings
     ensures { result ≡ without_temporary s }
 {
-    let mut next = s;
-    next.temporary = false;
-    next
+    Settings {
+        temporary: false,
+        ..s
+    }
 }

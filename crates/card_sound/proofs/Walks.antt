@@ -42,7 +42,7 @@ module _ (marks : List ℕ) (group : ℕ) where
         any_byte-end marks (group / 8 + 1) false (omega arith),
       )
 
-  pub marked-here : (get_or marks (group / 8) 0 / 2 ^ (group % 8) ≡ 0 → ⊥) → true ≡ marked_from marks group
+  pub marked-here : (get_or marks (group / 8) 0 / 2 ^ (group % 8) ≡ 0 → ⊥) → not (eqb (get_or marks (group / 8) 0 / 2 ^ (group % 8)) 0) ≡ marked_from marks group
   unfolding marked_from
   marked-here n = rw (ne_eqb _ _ n)
 

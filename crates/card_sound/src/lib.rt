@@ -1,8 +1,9 @@
 // Which records are unsound.
 #![tactic(auto)]
 
-ghost use Rattle.std.specs.Prelude.{◌≡◌, take, drop};
-ghost use Rattle.card.specs.Soundness.{unsound, unsound_tests, any_of, bad_password};
+ghost use Rattle.std.specs.Prelude.{◌≡◌, not, ◌&&◌, leb, take, drop};
+ghost use Rattle.card.specs.Settings as Sizes;
+ghost use Rattle.card.specs.Soundness.{bad_settings, unsound, unsound_tests, any_of, bad_password};
 
 mod marks;
 mod state;
@@ -11,83 +12,58 @@ use card::Core;
 use card::size::{BLOCK, PASSWORD};
 use card_settings::{allowed, capacity, csd_of};
 
+// A setting is out of range, or the CSD is not the settings'.
+fn bad_settings(c: Core) -> bool
+    ensures { result ≡ bad_settings c }
+{
+    !(allowed(c.settings) && card_settings::register::equal(c.csd, csd_of(c.settings)))
+}
+
+fn bad_length(length: u16) -> bool
+    ensures { result ≡ not (leb 1 length && leb length Sizes.BLOCK) }
+{
+    !(length >= 1 && u32::from(length) <= BLOCK)
+}
+
 // The settings, the polls left, the block length, and the transfer.
+#[tactic(auto, unfolding(card::specs::Soundness::unsound_tests, card::specs::Soundness::any_of))]
 fn unsound_first(c: Core) -> bool
     ensures { result ≡ any_of (take 5 (unsound_tests c)) }
 {
-    let s = c.settings;
-    if !allowed(s) {
-        return true;
-    }
-    let own = c.csd;
-    if !card_settings::register::equal(own, csd_of(s)) {
-        return true;
-    }
-    let bus = c.bus;
-    if s.polls < bus.polls {
-        return true;
-    }
-    if c.length < 1 {
-        return true;
-    }
-    if c.length as u32 > BLOCK {
-        return true;
-    }
-    let state = bus.state;
-    let open = card_state::open(state);
-    if capacity(s.blocks) < card_state::transfer_address(open) as u64 {
-        return true;
-    }
-    state::off_write(open)
+    let open = card_state::open(c.bus.state);
+    bad_settings(c)
+        || c.settings.polls < c.bus.polls
+        || bad_length(c.length)
+        || capacity(c.settings.blocks) < card_state::transfer_address(open) as u64
+        || state::off_write(open)
 }
 
 // The blocks written, the erase addresses, the card's address, the marks, and the application mark.
+#[tactic(auto, unfolding(card::specs::Soundness::unsound_tests, card::specs::Soundness::any_of))]
 fn unsound_rest(c: Core) -> bool
     ensures { result ≡ any_of (drop 5 (unsound_tests c)) }
 {
     let blocks = c.settings.blocks;
-    let bus = c.bus;
-    let state = bus.state;
-    if blocks < c.written {
-        return true;
-    }
-    if state::written_most(card_state::open(state), blocks) < c.written {
-        return true;
-    }
     let top = capacity(blocks);
-    let erase = c.erase;
-    let first = erase.first;
-    if state::mark_outside(top, first) {
-        return true;
-    }
-    let second = erase.second;
-    if state::mark_outside(top, second) {
-        return true;
-    }
-    let mode = bus.mode;
-    let spi = card_state::in_spi(mode);
-    let number = card_state::number(state);
-    if state::bad_rca(spi, number, bus.rca) {
-        return true;
-    }
-    let marks = c.marks;
-    if marks::marked_from(&marks, card_settings::groups(blocks)) {
-        return true;
-    }
-    state::bad_app(spi, number, bus.app)
+    let spi = card_state::in_spi(c.bus.mode);
+    blocks < c.written
+        || state::written_most(card_state::open(c.bus.state), blocks) < c.written
+        || state::mark_outside(top, c.erase.first)
+        || state::mark_outside(top, c.erase.second)
+        || state::bad_rca(spi, c.bus.state, c.bus.rca)
+        || marks::marked_from(&c.marks, card_settings::groups(blocks))
+        || state::bad_app(spi, c.bus.state, c.bus.app)
 }
 
 // The items of 01's list that a record can break, in its order.
 pub fn unsound(c: Core) -> bool
     ensures { result ≡ unsound c }
 {
-    if unsound_first(c) {
-        return true;
-    }
-    unsound_rest(c)
+    unsound_first(c) || unsound_rest(c)
 }
 
 // The password's length: none though the card is locked, or more bytes than it can have.
+#[tactic(auto, unfolding(card::specs::Soundness::bad_password))]
 pub fn bad_password(locked: bool, length: u8) -> bool
     ensures { result ≡ bad_password locked length }
 {

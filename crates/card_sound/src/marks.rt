@@ -1,16 +1,14 @@
 // The protection marks behind the last group.
-ghost use Rattle.std.specs.Prelude.{◌≡◌, drop};
+ghost use Rattle.std.specs.Prelude.{◌≡◌};
 ghost use Rattle.card.specs.Soundness.{any_byte, marked_from};
 
-// Some byte from a place on is not zero. It looks at all of them, many at once.
-fn any_byte(marks: &[u8], start: usize) -> bool
-    ensures { result ≡ any_byte (drop start marks.now) }
+// Some byte is not zero. It looks at all of them, many at once: `any` would stop at the first.
+fn any_byte(marks: &[u8]) -> bool
+    ensures { result ≡ any_byte marks.now }
 {
     let mut found = false;
-    let mut i = start;
-    while i < marks.len() {
-        found = found | (marks[i] != 0);
-        i += 1;
+    for byte in marks {
+        found = found | (*byte != 0);
     }
     found
 }
@@ -23,8 +21,5 @@ pub(crate) fn marked_from(marks: &[u8], group: u64) -> bool
     if at >= marks.len() {
         return false;
     }
-    if marks[at] >> (group % 8) != 0 {
-        return true;
-    }
-    any_byte(marks, at + 1)
+    marks[at] >> (group % 8) != 0 || any_byte(&marks[at + 1..])
 }

@@ -1,28 +1,19 @@
-// What is asked of the transfer, of an erase mark, and of the number of a state in a bus mode.
+// What is asked of the transfer, of an erase mark, and of the state in a bus mode.
 ghost use Rattle.std.specs.Prelude.{◌≡◌};
+ghost use Rattle.card.specs.State.{number};
 ghost use Rattle.card.specs.Soundness.{off_write, sink_most, written_most, mark_outside, bad_rca, bad_app};
 
 use card::size::BLOCK;
-use card::{EraseMark, Open, Sink};
+use card::{Open, Sink, State};
 use card_state::sink_address;
-
-const READY: u8 = 1;
-
-const IDENT: u8 = 2;
-
-const STBY: u8 = 3;
-
-const INA: u8 = 9;
 
 // A write's address is no multiple of a block.
 pub(crate) fn off_write(o: Open) -> bool
     ensures { result ≡ off_write o }
 {
     match o {
-        Open::Nothing => false,
-        Open::Read(_) => false,
         Open::Write(sink) => sink_address(sink) % BLOCK != 0,
-        Open::Busy(_) => false,
+        Open::Nothing | Open::Read(_) | Open::Busy(_) => false,
     }
 }
 
@@ -30,8 +21,7 @@ fn sink_most(s: Sink, n: u32) -> u32
     ensures { result ≡ sink_most s n }
 {
     match s {
-        Sink::Single { address, held: _ } => address / BLOCK,
-        Sink::Multiple { address, held: _ } => address / BLOCK,
+        Sink::Single { address, .. } | Sink::Multiple { address, .. } => address / BLOCK,
         Sink::LockUnlock => n,
     }
 }
@@ -41,45 +31,40 @@ pub(crate) fn written_most(o: Open, n: u32) -> u32
     ensures { result ≡ written_most o n }
 {
     match o {
-        Open::Nothing => n,
-        Open::Read(_) => n,
         Open::Write(sink) => sink_most(sink, n),
-        Open::Busy(_) => n,
+        Open::Nothing | Open::Read(_) | Open::Busy(_) => n,
     }
 }
 
 // A marked address at the end of the card or behind it.
-pub(crate) fn mark_outside(top: u64, m: EraseMark) -> bool
-    ensures { result ≡ mark_outside top m }
+pub(crate) fn mark_outside(top: u64, mark: Option<u32>) -> bool
+    ensures { result ≡ mark_outside top mark }
 {
-    match m {
-        EraseMark::Unset => false,
-        EraseMark::At(a) => top <= a as u64,
+    match mark {
+        Some(address) => top <= u64::from(address),
+        None => false,
     }
 }
 
 // In SD mode: the RCA is nonzero in idle, ready and ident, or zero in stby to dis; free in ina.
-pub(crate) fn bad_rca(spi: bool, state: u8, rca: u16) -> bool
-    ensures { result ≡ bad_rca spi state rca }
+#[tactic(auto, unfolding(card::specs::Soundness::bad_rca))]
+pub(crate) fn bad_rca(spi: bool, state: State, rca: u16) -> bool
+    ensures { result ≡ bad_rca spi (number state) rca }
 {
     if spi {
         return false;
     }
-    if state == INA {
-        return false;
+    match state {
+        State::Idle | State::Ready | State::Ident => rca != 0,
+        State::Ina => false,
+        _ => rca == 0,
     }
-    if state >= STBY {
-        return rca == 0;
-    }
-    rca != 0
 }
 
 // In SD mode: the application mark in ready, ident or ina.
-pub(crate) fn bad_app(spi: bool, state: u8, app: bool) -> bool
-    ensures { result ≡ bad_app spi state app }
+#[tactic(auto, unfolding(card::specs::Soundness::bad_app))]
+pub(crate) fn bad_app(spi: bool, state: State, app: bool) -> bool
+    ensures { result ≡ bad_app spi (number state) app }
 {
-    if spi {
-        return false;
-    }
-    app & ((state == READY) | ((state == IDENT) | (state == INA)))
+    !spi && app && matches!(state, State::Ready | State::Ident | State::Ina)
 }

@@ -26,13 +26,11 @@ const IN_IDLE_STATE: u8 = 0x01;
 fn bit(value: bool, weight: u8) -> u8
     ensures { (result ≡ digit value * weight) × (result ≤ weight) }
 {
-    if value {
-        return weight;
-    }
-    0
+    if value { weight } else { 0 }
 }
 
 // R1 without COM_CRC_ERROR, which the line adds.
+#[tactic(auto, unfolding(card::specs::Spi::r1_byte))]
 pub fn r1_byte(kept: Kept, idle: bool) -> u8
     ensures { (result ≡ r1_byte kept idle) × (result < 128) }
 {
@@ -45,6 +43,7 @@ pub fn r1_byte(kept: Kept, idle: bool) -> u8
 }
 
 // The second byte of R2.
+#[tactic(auto, unfolding(card::specs::Spi::r2_byte))]
 pub fn r2_byte(kept: Kept, locked: bool) -> u8
     ensures { result ≡ r2_byte kept locked }
 {
@@ -69,6 +68,7 @@ pub fn not_allowed(idle: bool) -> u8
 }
 
 // What R1 does not carry stays; R2 carries every bit that is kept.
+#[tactic(auto, unfolding(card::specs::Spi::unread))]
 pub fn unread(r2: bool, kept: Kept) -> Kept
     ensures { result ≡ unread r2 kept }
 {
@@ -80,11 +80,8 @@ pub fn unread(r2: bool, kept: Kept) -> Kept
         address_error: false,
         block_len_error: false,
         erase_seq_error: false,
-        erase_param: kept.erase_param,
-        wp_violation: kept.wp_violation,
-        lock_unlock_failed: kept.lock_unlock_failed,
         illegal_command: false,
-        wp_erase_skip: kept.wp_erase_skip,
         erase_reset: false,
+        ..kept
     }
 }

@@ -1,9 +1,8 @@
 // SPI mode: what a frame shows, and what a command that ran clears.
 #![tactic(auto)]
 
-ghost use Rattle.std.specs.Prelude.{◌≡◌, [], ◌∷◌, eqb};
+ghost use Rattle.std.specs.Prelude.{◌≡◌, [], ◌∷◌};
 ghost use Rattle.crc.specs.Bits.{bits, bytes};
-ghost use Rattle.card.specs.State.{idle, number};
 ghost use Rattle.card.specs.Spi.{sends_r2, behind_r1, finish_spi};
 ghost use Rattle.card.specs.Receive.{show_spi};
 ghost use Rattle.card_respond.specs.Sent.{behind};
@@ -14,17 +13,12 @@ pub mod byte;
 use byte::{r1_byte, r2_byte, unread};
 use card::command::Command;
 use card::done::{Done, Flag, Judged, Response, Verdict};
-use card::{Core, Kept, State};
+use card::{Core, Kept};
 use card_record::{with_app, with_kept};
 use card_respond::{Behind, Message};
+use card_state::in_idle;
 use card_status::join;
 use card_turn::{Turned, error, quiet};
-
-pub fn in_idle(s: State) -> bool
-    ensures { result ≡ eqb (number s) idle }
-{
-    card_state::number(s) == 0
-}
 
 // 13 and A13 are answered by R2.
 fn sends_r2(command: Command) -> bool
@@ -34,28 +28,22 @@ fn sends_r2(command: Command) -> bool
 }
 
 // The four bytes of R7.
+#[tactic(auto, using(crate::proofs::Shown::echoed))]
 fn echo(voltage: u8, pattern: u8) -> u32
     ensures { bytes 4 (bits 32 result) ≡ 0 ∷ (0 ∷ (voltage ∷ (pattern ∷ []))) }
 {
     (voltage as u32) * 256 + (pattern as u32)
 }
 
+#[tactic(auto, unfolding(card::specs::Spi::behind_r1))]
 fn behind_r1(command: Command, shown: Kept, locked: bool, response: Response) -> Behind
     ensures { behind result ≡ behind_r1 command shown locked response }
 {
     match response {
-        Response::Nothing => Behind::Nothing,
-        Response::R1 => {
-            if sends_r2(command) {
-                return Behind::Second(r2_byte(shown, locked));
-            }
-            Behind::Nothing
-        }
-        Response::R6 => Behind::Nothing,
-        Response::Cid => Behind::Nothing,
-        Response::Csd => Behind::Nothing,
+        Response::R1 if sends_r2(command) => Behind::Second(r2_byte(shown, locked)),
         Response::R3(ocr) => Behind::Word(ocr),
         Response::R7 { voltage, pattern } => Behind::Word(echo(voltage, pattern)),
+        _ => Behind::Nothing,
     }
 }
 
@@ -64,43 +52,29 @@ pub fn finish_spi(c: Core, command: Command, done: Done) -> Turned
     ensures { turned result ≡ finish_spi c.kept command done }
 {
     let next = done.core;
-    let response = done.response;
-    let effect = done.effect;
-    let held = c.kept;
-    let kept = next.kept;
-    let shown = join(held, kept);
-    let bus = next.bus;
-    let state = bus.state;
+    let shown = join(c.kept, next.kept);
     let message = Message::Spi {
-        r1: r1_byte(shown, in_idle(state)),
-        behind: behind_r1(command, shown, next.locked, response),
+        r1: r1_byte(shown, in_idle(next.bus.state)),
+        behind: behind_r1(command, shown, next.locked, done.response),
     };
     Turned {
         core: with_app(
-            with_kept(next, unread(sends_r2(command), kept)),
+            with_kept(next, unread(sends_r2(command), next.kept)),
             card_table::sets_app(command),
         ),
         flag: Flag::Clear,
-        message: message,
-        effect: effect,
+        message,
+        effect: done.effect,
     }
 }
 
+#[tactic(auto, unfolding(card::specs::Receive::show_spi))]
 pub fn show_spi(c: Core, judged: Judged) -> Turned
     ensures { turned result ≡ show_spi c judged }
 {
-    let verdict = judged.verdict;
-    match verdict {
-        Verdict::NotAllowed => {
-            let bus = c.bus;
-            let state = bus.state;
-            error(with_app(c, false), byte::not_allowed(in_idle(state)))
-        }
+    match judged.verdict {
+        Verdict::NotAllowed => error(with_app(c, false), byte::not_allowed(in_idle(c.bus.state))),
         Verdict::OtherCard => quiet(c, Flag::Keep),
-        Verdict::Ran => {
-            let command = judged.command;
-            let done = judged.done;
-            finish_spi(c, command, done)
-        }
+        Verdict::Ran => finish_spi(c, judged.command, judged.done),
     }
 }

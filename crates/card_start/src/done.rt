@@ -11,7 +11,7 @@ pub fn ran(c: Core, response: Response) -> Done
 {
     Done {
         core: c,
-        response: response,
+        response,
         effect: Effect::Nothing,
     }
 }

@@ -13,9 +13,7 @@ use card_table::after;
 pub fn moved(command: Command, c: Core) -> Core
     ensures { result ≡ moved command c }
 {
-    let bus = c.bus;
-    let state = bus.state;
-    with_state(c, after(command, bus, state))
+    with_state(c, after(command, c.bus, c.bus.state))
 }
 
 // A command that only moves the card.
@@ -29,6 +27,5 @@ pub fn moving(command: Command, c: Core, response: Response) -> Done
 pub fn opening(command: Command, c: Core, t: State) -> Core
     ensures { result ≡ opening command c t }
 {
-    let bus = c.bus;
-    with_state(c, after(command, bus, t))
+    with_state(c, after(command, c.bus, t))
 }

@@ -1,11 +1,12 @@
 // The number of a state, the bus mode, and what a state has open: every question that is asked of a state goes by these.
 #![tactic(auto)]
 
-ghost use Rattle.std.specs.Prelude.{◌≡◌, ◌≤◌};
-ghost use Rattle.card.specs.State.{number, arrive, in_spi, checking, unchecked, spi_number, number_in, open_of, reading, writing, busy, sink_locks, sink_multiple, writing_multiple, locking, source_address, sink_address, transfer_address, sink};
+ghost use Rattle.std.specs.Prelude.{◌≡◌, ◌≤◌, eqb};
+ghost use Rattle.card.specs.State.{idle, number, arrive, in_spi, checking, unchecked, spi_number, number_in, open_of, reading, writing, busy, writing_multiple, locking, source_address, sink_address, transfer_address, sink};
 
 use card::{Mode, Open, Sink, Source, State};
 
+// No From<State> for u8: it would stand in card, which has no code, and callers need the bound of 9.
 pub fn number(s: State) -> u8
     ensures { (result ≡ number s) × (result ≤ 9) }
 {
@@ -23,7 +24,14 @@ pub fn number(s: State) -> u8
     }
 }
 
+pub fn in_idle(s: State) -> bool
+    ensures { result ≡ eqb (number s) idle }
+{
+    matches!(s, State::Idle)
+}
+
 // The state of a number; data and rcv are the transfer that t is.
+#[tactic(auto, unfolding(card::specs::State::arrive))]
 pub fn arrive(n: u8, t: State) -> State
     ensures { result ≡ arrive n t }
 {
@@ -33,8 +41,7 @@ pub fn arrive(n: u8, t: State) -> State
         2 => State::Ident,
         3 => State::Stby,
         4 => State::Tran,
-        5 => t,
-        6 => t,
+        5 | 6 => t,
         7 => State::Prg,
         8 => State::Dis,
         _ => State::Ina,
@@ -44,10 +51,7 @@ pub fn arrive(n: u8, t: State) -> State
 pub fn in_spi(m: Mode) -> bool
     ensures { result ≡ in_spi m }
 {
-    match m {
-        Mode::Sd => false,
-        Mode::Spi { checks: _ } => true,
-    }
+    matches!(m, Mode::Spi { .. })
 }
 
 // Whether CRC7 and CRC16 are judged.
@@ -66,7 +70,7 @@ pub fn unchecked(m: Mode) -> Mode
 {
     match m {
         Mode::Sd => Mode::Sd,
-        Mode::Spi { checks: _ } => Mode::Spi { checks: false },
+        Mode::Spi { .. } => Mode::Spi { checks: false },
     }
 }
 
@@ -76,149 +80,71 @@ fn spi_number(s: State) -> u8
 {
     match s {
         State::Idle => 0,
-        State::Ready => 4,
-        State::Ident => 4,
-        State::Stby => 4,
-        State::Tran => 4,
+        State::Ready | State::Ident | State::Stby | State::Tran | State::Ina => 4,
         State::Data(_) => 5,
         State::Rcv(_) => 6,
-        State::Prg => 7,
-        State::Dis => 7,
-        State::Ina => 4,
+        State::Prg | State::Dis => 7,
     }
 }
 
 // The number by which the table of a mode goes.
+#[tactic(auto, unfolding(card::specs::State::number_in))]
 pub fn number_in(spi: bool, s: State) -> u8
     ensures { (result ≡ number_in spi s) × (result ≤ 9) }
 {
-    if spi {
-        return spi_number(s);
-    }
-    number(s)
+    if spi { spi_number(s) } else { number(s) }
 }
 
 pub fn open(s: State) -> Open
     ensures { result ≡ open_of s }
 {
     match s {
-        State::Idle => Open::Nothing,
-        State::Ready => Open::Nothing,
-        State::Ident => Open::Nothing,
-        State::Stby => Open::Nothing,
-        State::Tran => Open::Nothing,
         State::Data(source) => Open::Read(source),
         State::Rcv(sink) => Open::Write(sink),
         State::Prg => Open::Busy(State::Tran),
         State::Dis => Open::Busy(State::Stby),
-        State::Ina => Open::Nothing,
+        _ => Open::Nothing,
     }
 }
 
 pub fn reading(o: Open) -> bool
     ensures { result ≡ reading o }
 {
-    match o {
-        Open::Nothing => false,
-        Open::Read(_) => true,
-        Open::Write(_) => false,
-        Open::Busy(_) => false,
-    }
+    matches!(o, Open::Read(_))
 }
 
 pub fn writing(o: Open) -> bool
     ensures { result ≡ writing o }
 {
-    match o {
-        Open::Nothing => false,
-        Open::Read(_) => false,
-        Open::Write(_) => true,
-        Open::Busy(_) => false,
-    }
+    matches!(o, Open::Write(_))
 }
 
 pub fn busy(o: Open) -> bool
     ensures { result ≡ busy o }
 {
-    match o {
-        Open::Nothing => false,
-        Open::Read(_) => false,
-        Open::Write(_) => false,
-        Open::Busy(_) => true,
-    }
-}
-
-fn sink_locks(s: Sink) -> bool
-    ensures { result ≡ sink_locks s }
-{
-    match s {
-        Sink::Single {
-            address: _,
-            held: _,
-        } => false,
-        Sink::Multiple {
-            address: _,
-            held: _,
-        } => false,
-        Sink::LockUnlock => true,
-    }
-}
-
-fn sink_multiple(s: Sink) -> bool
-    ensures { result ≡ sink_multiple s }
-{
-    match s {
-        Sink::Single {
-            address: _,
-            held: _,
-        } => false,
-        Sink::Multiple {
-            address: _,
-            held: _,
-        } => true,
-        Sink::LockUnlock => false,
-    }
+    matches!(o, Open::Busy(_))
 }
 
 // The blocks of 25 are awaited.
 pub fn writing_multiple(o: Open) -> bool
     ensures { result ≡ writing_multiple o }
 {
-    match o {
-        Open::Nothing => false,
-        Open::Read(_) => false,
-        Open::Write(sink) => sink_multiple(sink),
-        Open::Busy(_) => false,
-    }
+    matches!(o, Open::Write(Sink::Multiple { .. }))
 }
 
 // The block of 42 is awaited.
 pub fn locking(o: Open) -> bool
     ensures { result ≡ locking o }
 {
-    match o {
-        Open::Nothing => false,
-        Open::Read(_) => false,
-        Open::Write(sink) => sink_locks(sink),
-        Open::Busy(_) => false,
-    }
+    matches!(o, Open::Write(Sink::LockUnlock))
 }
 
 fn source_address(s: Source) -> u32
     ensures { result ≡ source_address s }
 {
     match s {
-        Source::Blocks {
-            multiple: _,
-            address,
-            held: _,
-        } => address,
-        Source::WriteProtect { address } => address,
-        Source::SdStatus => 0,
-        Source::WrittenBlocks => 0,
-        Source::Scr => 0,
-        Source::Csd => 0,
-        Source::Cid => 0,
+        Source::Blocks { address, .. } | Source::WriteProtect { address } => address,
+        Source::SdStatus | Source::WrittenBlocks | Source::Scr | Source::Csd | Source::Cid => 0,
     }
 }
 
@@ -226,8 +152,7 @@ pub fn sink_address(s: Sink) -> u32
     ensures { result ≡ sink_address s }
 {
     match s {
-        Sink::Single { address, held: _ } => address,
-        Sink::Multiple { address, held: _ } => address,
+        Sink::Single { address, .. } | Sink::Multiple { address, .. } => address,
         Sink::LockUnlock => 0,
     }
 }
@@ -237,10 +162,9 @@ pub fn transfer_address(o: Open) -> u32
     ensures { result ≡ transfer_address o }
 {
     match o {
-        Open::Nothing => 0,
         Open::Read(source) => source_address(source),
         Open::Write(sink) => sink_address(sink),
-        Open::Busy(_) => 0,
+        Open::Nothing | Open::Busy(_) => 0,
     }
 }
 
@@ -249,7 +173,8 @@ pub fn sink(multiple: bool, address: u32, held: bool) -> Sink
     ensures { result ≡ sink multiple address held }
 {
     if multiple {
-        return Sink::Multiple { address, held };
+        Sink::Multiple { address, held }
+    } else {
+        Sink::Single { address, held }
     }
-    Sink::Single { address, held }
 }

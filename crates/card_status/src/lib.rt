@@ -8,7 +8,7 @@ ghost use Rattle.card.specs.Status.{only, no_bits, join, without_illegal};
 
 use card::Kept;
 
-// The standard's numbers.
+// The standard's numbers, and no enum of them: `only` promises its answer for any number, and an enum would ask more of callers.
 pub const OUT_OF_RANGE: u8 = 31;
 
 pub const ADDRESS_ERROR: u8 = 30;
@@ -88,7 +88,8 @@ pub fn join(a: Kept, b: Kept) -> Kept
 pub fn without_illegal(k: Kept) -> Kept
     ensures { result ≡ without_illegal k }
 {
-    let mut next = k;
-    next.illegal_command = false;
-    next
+    Kept {
+        illegal_command: false,
+        ..k
+    }
 }

@@ -5,29 +5,28 @@ ghost use Rattle.card.specs.Status.{at, status};
 
 use card::Kept;
 
+// The standard's numbers of the two busy states: `status` promises its word for any number.
 const PRG: u8 = 7;
 
 const DIS: u8 = 8;
 
-// A bit at its number.
+// A bit at its number; in SPI mode R1 has weights (`card_spi::byte`).
 fn bit(value: bool, n: u8) -> u32
     requires { n < 32 }
     ensures { (result ≡ at n value) × (result ≤ 2 ^ n) }
 {
-    if value {
-        return 1 << n;
-    }
-    0
+    if value { 1 << n } else { 0 }
 }
 
 // READY_FOR_DATA
 fn ready_for(state: u8) -> bool
     ensures { result ≡ ready_for state }
 {
-    !((state == PRG) | (state == DIS))
+    !matches!(state, PRG | DIS)
 }
 
 // The kept bits: what an unlocked card in idle shows but for READY_FOR_DATA.
+#[tactic(auto, unfolding(card::specs::Status::status))]
 fn kept_bits(k: Kept) -> u32
     ensures { (result + at 8 true ≡ status k false 0 false) × (result ≤ 0xFD40A000) }
 {
@@ -44,6 +43,7 @@ fn kept_bits(k: Kept) -> u32
 }
 
 // The word without COM_CRC_ERROR, with the number of the state at reception.
+#[tactic(auto, unfolding(card::specs::Status::status))]
 pub fn status(k: Kept, locked: bool, state: u8, app: bool) -> u32
     ensures { result ≡ status k locked state app }
 {

@@ -18,11 +18,13 @@ pub struct Columns {
     pub keeps_erase: bool,
     // a locked card accepts it
     pub when_locked: bool,
-    // moves in either bus mode, a hex digit for each state, ina first, idle last: the number of the state that it leads to, F where none
+    // moves in either bus mode, a hex digit for each state, ina first, idle last: the number of the state that it leads to, F where none;
+    // numbers and no arrays, as packed_row, in what row promises, has them
     pub sd: u64,
     pub spi: u64,
 }
 
+// Bools by name: the model's columns are bools, and the table is read by these words.
 const KEEPS: bool = true;
 
 const DROPS: bool = false;
@@ -46,16 +48,17 @@ fn of(
     ensures { result ≡ record { index = index; kind = kind; rca = rca; keeps_erase = keeps_erase; when_locked = when_locked; sd = sd; spi = spi } }
 {
     Columns {
-        index: index,
-        kind: kind,
-        rca: rca,
-        keeps_erase: keeps_erase,
-        when_locked: when_locked,
-        sd: sd,
-        spi: spi,
+        index,
+        kind,
+        rca,
+        keeps_erase,
+        when_locked,
+        sd,
+        spi,
     }
 }
 
+// This one and the next four are `of` with columns that rows share, so that each row of the table stays one line.
 fn plain(index: u8, rca: Rca, keeps_erase: bool, when_locked: bool, sd: u64, spi: u64) -> Columns
     ensures { result ≡ record { index = index; kind = Kind.Plain; rca = rca; keeps_erase = keeps_erase; when_locked = when_locked; sd = sd; spi = spi } }
 {
@@ -164,38 +167,19 @@ pub fn row(command: Command) -> Columns
 pub fn misses(command: Command, own: bool) -> bool
     ensures { result ≡ misses (row command).rca own }
 {
-    let meant = row(command);
-    let rca = meant.rca;
-    match rca {
-        Rca::Unused => false,
-        Rca::Addressed => !own,
-        Rca::Own => false,
-        Rca::Other => false,
-    }
+    matches!(row(command).rca, Rca::Addressed) && !own
 }
 
 pub fn shows_app(command: Command) -> bool
     ensures { result ≡ shows_app (row command).kind }
 {
-    let shown = row(command);
-    let kind = shown.kind;
-    match kind {
-        Kind::Plain => false,
-        Kind::AppCmd => true,
-        Kind::Application => true,
-    }
+    matches!(row(command).kind, Kind::AppCmd | Kind::Application)
 }
 
 pub fn sets_app(command: Command) -> bool
     ensures { result ≡ sets_app (row command).kind }
 {
-    let set = row(command);
-    let kind = set.kind;
-    match kind {
-        Kind::Plain => false,
-        Kind::AppCmd => true,
-        Kind::Application => false,
-    }
+    matches!(row(command).kind, Kind::AppCmd)
 }
 
 pub fn keeps_erase(command: Command) -> bool
@@ -205,6 +189,7 @@ pub fn keeps_erase(command: Command) -> bool
 }
 
 // On a card that is locked or not.
+#[tactic(auto, unfolding(card::specs::Table::accepts))]
 pub fn accepts(command: Command, locked: bool) -> bool
     ensures { result ≡ accepts command locked }
 {
@@ -217,6 +202,7 @@ pub fn index(command: Command) -> u8
     row(command).index
 }
 
+// F of a packed row, as `packed_row` has it.
 const NONE: u8 = 15;
 
 fn digit(moves: u64, from: u8) -> u8
@@ -232,32 +218,30 @@ fn lead(command: Command, spi: bool, from: u8) -> u8
 {
     let found = row(command);
     if spi {
-        return digit(found.spi, from);
+        digit(found.spi, from)
+    } else {
+        digit(found.sd, from)
     }
-    digit(found.sd, from)
 }
 
 // In this bus mode and state.
 pub fn legal(command: Command, bus: Bus) -> bool
     ensures { result ≡ legal command bus }
 {
-    let mode = bus.mode;
-    let state = bus.state;
-    let spi = in_spi(mode);
-    lead(command, spi, number_in(spi, state)) != NONE
+    let spi = in_spi(bus.mode);
+    lead(command, spi, number_in(spi, bus.state)) != NONE
 }
 
 // The state after a command, with transfer t where it opens one.
 pub fn after(command: Command, bus: Bus, t: State) -> State
     ensures { result ≡ after command bus t }
 {
-    let mode = bus.mode;
-    let state = bus.state;
-    let spi = in_spi(mode);
-    let from = number_in(spi, state);
+    let spi = in_spi(bus.mode);
+    let from = number_in(spi, bus.state);
     let to = lead(command, spi, from);
     if to == NONE {
-        return arrive(from, t);
+        arrive(from, t)
+    } else {
+        arrive(to, t)
     }
-    arrive(to, t)
 }

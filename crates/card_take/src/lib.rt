@@ -11,18 +11,16 @@ use card::answer::Answer;
 use card::size::BLOCK;
 use card::{Card, Open};
 use card_call::{Stepped, refused};
-use card_refuse::{refusal, rows};
+use card_refuse::{check, rows};
 use card_token::token_size;
+use codec::Refusal;
 use wire_packet::CHECK;
 
 pub fn take(card: Card, memory: &[u8], out: &mut [u8]) -> Stepped
     ensures { returned result memory.now out.new ≡ stepped card memory.now (take_block out.old) }
 {
-    let bus = card.core.bus;
-    let state = bus.state;
-    let mode = bus.mode;
-    let open = card_state::open(state);
-    let room = token_size(mode) + (BLOCK as usize + CHECK);
+    let open = card_state::open(card.core.bus.state);
+    let room = token_size(card.core.bus.mode) + (BLOCK as usize + CHECK);
     let r = rows(
         card.core,
         card.password.length,
@@ -31,15 +29,22 @@ pub fn take(card: Card, memory: &[u8], out: &mut [u8]) -> Stepped
         out.len() < room,
         !card_state::reading(open),
     );
-    let n = refusal(&[2, 3, 4, 5], r);
-    if n != 0 {
-        return refused(card, n);
+    if let Err(refusal) = check(
+        &[
+            Refusal::Record,
+            Refusal::Memory,
+            Refusal::Buffer,
+            Refusal::Closed,
+        ],
+        r,
+    ) {
+        return refused(card, refusal);
     }
     match open {
-        Open::Read(s) => turn::take_source(s, card, memory, out),
-        _ => Stepped {
+        Open::Read(source) => turn::take_source(source, card, memory, out),
+        Open::Nothing | Open::Write(_) | Open::Busy(_) => Stepped {
             answer: Answer::Silence,
-            card: card,
+            card,
         },
     }
 }

@@ -1,5 +1,5 @@
 // Take a block from an open read transfer: a block of memory, the marks, or a register.
-ghost use Rattle.std.specs.Prelude.{◌≡◌, true, false, cond};
+ghost use Rattle.std.specs.Prelude.{◌≡◌, true, false, cond, Some, None};
 ghost use Rattle.card.specs.declared.Source.TheVariants.{Blocks};
 ghost use Rattle.card.specs.declared.State.TheVariants.{Data, Tran};
 ghost use Rattle.card.specs.Status as Status;
@@ -17,17 +17,17 @@ use card_send::{hold, send, send_cid, send_csd, send_marks, send_scr, send_statu
 use card_settings::capacity;
 use card_status::{ADDRESS_ERROR, OUT_OF_RANGE};
 
-// The bit that holds a read: past the end, or across a boundary; 0 where none does.
-fn hold_bit(top: u64, length: u16, address: u32) -> u8
-    ensures { result ≡ cond (outside top address) Status.OUT_OF_RANGE (cond (crossing length address) Status.ADDRESS_ERROR 0) }
+// The bit that holds a read: past the end, or across a boundary.
+fn hold_bit(top: u64, length: u16, address: u32) -> Option<u8>
+    ensures { result ≡ cond (outside top address) (Some Status.OUT_OF_RANGE) (cond (crossing length address) (Some Status.ADDRESS_ERROR) None) }
 {
     if top <= address as u64 {
-        return OUT_OF_RANGE;
+        Some(OUT_OF_RANGE)
+    } else if address % BLOCK + length as u32 > BLOCK {
+        Some(ADDRESS_ERROR)
+    } else {
+        None
     }
-    if address % BLOCK + length as u32 > BLOCK {
-        return ADDRESS_ERROR;
-    }
-    0
 }
 
 // 18 goes on behind the block, 17 returns to tran.
@@ -35,13 +35,14 @@ fn behind(multiple: bool, address: u32) -> State
     ensures { result ≡ cond multiple (Data (Blocks true address false)) Tran }
 {
     if multiple {
-        return State::Data(Source::Blocks {
+        State::Data(Source::Blocks {
             multiple: true,
-            address: address,
+            address,
             held: false,
-        });
+        })
+    } else {
+        State::Tran
     }
-    State::Tran
 }
 
 // 17 and 18.
@@ -60,12 +61,11 @@ fn take_blocks(
     if held {
         return Stepped {
             answer: Answer::Silence,
-            card: card,
+            card,
         };
     }
     let length = card.core.length;
-    let bit = hold_bit(capacity(card.core.settings.blocks), length, address);
-    if bit != 0 {
+    if let Some(bit) = hold_bit(capacity(card.core.settings.blocks), length, address) {
         return hold(card, bit, multiple, address);
     }
     let start = address as usize;

@@ -4,7 +4,7 @@ use mathlib.Core.Bool.{Bool, true, false, cond, ◌&&◌}
 use mathlib.Core.List.{List, [], ◌∷◌}
 use Prim.Native.Nat.{ℕ}
 use native.Mathlib.Omega.{arith}
-use borrow.Author.Tests.{eq-eqb, ne_eqb}
+use borrow.Author.Tests.{ne_eqb}
 use lib.Dec.{eqb}
 use lib.ListN.{length, get_or, drop}
 use Rattle.card.specs.declared.Mode.{Mode}
@@ -33,22 +33,6 @@ module _ (o : Open) (s : List ℕ) (checks : Bool) where
       go : (t : List ℕ) → length t ≡ 0 → Ignored ≡ kind (token_in checks o t)
       go [] e = simp (ne_eqb 0 (start_token o) (some-token o))
       go (x ∷ t) e = absurd (omega arith)
-
-  pub stops : length s ≡ 1 → get_or s 0 0 ≡ STOP_TRAN → Stop ≡ kind (token_in checks o s)
-  unfolding token_in
-  stops l e = simp (eq-eqb _ _ l, eq-eqb _ _ e)
-
-  pub lone : length s ≡ 1 → (get_or s 0 0 ≡ STOP_TRAN → ⊥) → Ignored ≡ kind (token_in checks o s)
-  unfolding token_in
-  lone l e = simp (eq-eqb _ _ l, ne_eqb _ _ e)
-
-  pub starts : (length s ≡ 1 → ⊥) → get_or s 0 0 ≡ start_token o → Packet ≡ kind (token_in checks o s)
-  unfolding token_in
-  starts l e = simp (ne_eqb _ _ l, eq-eqb _ _ e)
-
-  pub other : (length s ≡ 1 → ⊥) → (get_or s 0 0 ≡ start_token o → ⊥) → Ignored ≡ kind (token_in checks o s)
-  unfolding token_in
-  other l e = simp (ne_eqb _ _ l, ne_eqb _ _ e)
 
 -- ---- from what came in
 

@@ -21,7 +21,7 @@ const START_MULTIPLE: u8 = 0xFC;
 const STOP_TRAN: u8 = 0xFD;
 
 // What a block is behind its framing: a packet; the stop token of 25; or behind a wrong token.
-#[derive(Clone, Copy)]
+#[derive(Clone, Copy, Debug, PartialEq, Eq)]
 pub enum Arrived {
     Packet,
     Stop,
@@ -29,70 +29,75 @@ pub enum Arrived {
 }
 
 // The bytes of the start token that leads a block.
+#[tactic(auto, unfolding(card::specs::Step::token_size))]
 pub fn token_size(m: Mode) -> usize
     ensures { (result ≡ token_size m) × (result ≤ 1) }
 {
-    if in_spi(m) {
-        return 1;
-    }
-    0
+    if in_spi(m) { 1 } else { 0 }
 }
 
 // The bytes of a packet that comes in: for 42 its payload has the set length.
 fn packet_size(locks: bool, length: u16) -> usize
     ensures { (result ≡ packet_bytes locks length) × (result ≤ 65537) }
 {
-    if locks {
-        return length as usize + CHECK;
-    }
-    BLOCK as usize + CHECK
+    let payload = if locks {
+        length as usize
+    } else {
+        BLOCK as usize
+    };
+    payload + CHECK
 }
 
 // Row 1 of a block of n bytes. A lone byte is a size of 25's transfers in SPI mode.
 pub fn other_block(m: Mode, o: Open, length: u16, n: usize) -> bool
     ensures { result ≡ other_length m o length n }
 {
-    if n == token_size(m) + packet_size(locking(o), length) {
-        return false;
-    }
-    !(in_spi(m) & writing_multiple(o) & (n == 1))
+    n != token_size(m) + packet_size(locking(o), length)
+        && !(in_spi(m) && writing_multiple(o) && n == 1)
 }
 
+#[tactic(auto, unfolding(card::specs::Spi::start_token))]
 fn start_token(o: Open) -> u8
     ensures { result ≡ start_token o }
 {
     if writing_multiple(o) {
-        return START_MULTIPLE;
+        START_MULTIPLE
+    } else {
+        START_BLOCK
     }
-    START_BLOCK
 }
 
 // A lone byte is the stop token of 25.
+#[tactic(auto, unfolding(card::specs::Step::token_in))]
 fn token_in(o: Open, block: &[u8]) -> Arrived
     ensures { (checks : Bool) → result ≡ kind (token_in checks o block.now) }
 {
-    let n = block.len();
-    if n == 0 {
-        return Arrived::Ignored;
-    }
-    let token = block[0];
-    if n == 1 {
-        if token == STOP_TRAN {
-            return Arrived::Stop;
+    match block {
+        [] => Arrived::Ignored,
+        [token] => {
+            if *token == STOP_TRAN {
+                Arrived::Stop
+            } else {
+                Arrived::Ignored
+            }
         }
-        return Arrived::Ignored;
+        [token, ..] => {
+            if *token == start_token(o) {
+                Arrived::Packet
+            } else {
+                Arrived::Ignored
+            }
+        }
     }
-    if token == start_token(o) {
-        return Arrived::Packet;
-    }
-    Arrived::Ignored
 }
 
+#[tactic(auto, unfolding(card::specs::Step::incoming))]
 pub fn incoming(m: Mode, o: Open, block: &[u8]) -> Arrived
     ensures { result ≡ kind (incoming m o block.now) }
 {
     if in_spi(m) {
-        return token_in(o, block);
+        token_in(o, block)
+    } else {
+        Arrived::Packet
     }
-    Arrived::Packet
 }

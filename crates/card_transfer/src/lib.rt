@@ -25,10 +25,7 @@ use card_status::BLOCK_LEN_ERROR;
 pub fn set_blocklen(c: Core, argument: u32) -> Done
     ensures { result ≡ set_blocklen c argument }
 {
-    if argument < 1 {
-        return ran(raise(c, BLOCK_LEN_ERROR), Response::R1);
-    }
-    if argument > BLOCK {
+    if argument < 1 || argument > BLOCK {
         return ran(raise(c, BLOCK_LEN_ERROR), Response::R1);
     }
     ran(with_length(c, argument as u16), Response::R1)
@@ -65,8 +62,8 @@ pub fn read_blocks(command: Command, c: Core, multiple: bool, address: u32) -> D
 {
     let bit = read_check(capacity(c.settings.blocks), c.length, address);
     let source = Source::Blocks {
-        multiple: multiple,
-        address: address,
+        multiple,
+        address,
         held: false,
     };
     checked(c, bit, send(command, c, source, Response::R1))
@@ -76,8 +73,7 @@ pub fn write_blocks(command: Command, c: Core, multiple: bool, address: u32) -> 
     ensures { result ≡ write_blocks command c multiple address }
 {
     let all = whole(c.settings.permanent, c.settings.temporary);
-    let marks = c.marks;
-    let wp = guarded(all, &marks, address);
+    let wp = guarded(all, &c.marks, address);
     let bit = write_check(capacity(c.settings.blocks), c.length, wp, address);
     let t = State::Rcv(sink(multiple, address, false));
     let next = with_written(opening(command, c, t), 0);
@@ -94,7 +90,7 @@ pub fn set_mark(command: Command, c: Core, value: bool, address: u32) -> Done
         response: Response::R1,
         effect: Effect::Protect {
             group: group_of(address),
-            value: value,
+            value,
         },
     };
     checked(c, bit, done)
@@ -107,7 +103,7 @@ pub fn send_write_prot(c: Core, address: u32) -> Done
         (ran (opening Command.SendWriteProt c (Data (WriteProtect address))) R1) }
 {
     let bit = address_check(capacity(c.settings.blocks), address);
-    let source = Source::WriteProtect { address: address };
+    let source = Source::WriteProtect { address };
     checked(
         c,
         bit,

@@ -24,15 +24,14 @@ pub struct Turned {
 pub fn quiet(c: Core, flag: Flag) -> Turned
     ensures { turned result ≡ quiet c flag }
 {
-    let message = Message::Sd {
-        response: Response::Nothing,
-        index: 0,
-        word: 0,
-    };
     Turned {
         core: c,
-        flag: flag,
-        message: message,
+        flag,
+        message: Message::Sd {
+            response: Response::Nothing,
+            index: 0,
+            word: 0,
+        },
         effect: Effect::Nothing,
     }
 }
@@ -49,6 +48,7 @@ pub fn error(c: Core, byte: u8) -> Turned
     }
 }
 
+#[tactic(auto, unfolding(card::specs::Step::flagged))]
 fn flagged(f: Flag, line: Line) -> Line
     ensures { result ≡ flagged f line }
 {
@@ -69,7 +69,7 @@ pub fn kept(next: Core, password: Password, marks: [u8; 256], flag: Flag, line: 
 {
     Card {
         core: with_marks(next, marks),
-        password: password,
+        password,
         line: flagged(flag, line),
     }
 }

@@ -1,26 +1,43 @@
-// What the encoders and decoders share: the refusals' numbers, an encoder's answer, and words of bits built and taken
-// apart by shifts and masks.
+// What the encoders and decoders share: why a call is refused, and words of bits built and taken apart by shifts and masks.
 #![tactic(auto)]
 
-ghost use Rattle.std.specs.Prelude.{◌≡◌, [], ◌∷◌, ◌++◌, true, ◌*◌, ◌/◌, ◌%◌, ◌^◌, min, length, take, drop};
+ghost use Rattle.std.specs.Prelude.{◌≡◌, [], ◌∷◌, ◌++◌, true, ◌*◌, ◌/◌, ◌%◌, ◌^◌, length, take, drop};
 ghost use Rattle.crc.specs.Bits.{bits, number, bits_of, bytes};
 ghost use Rattle.crc.specs.Crc.{crc, poly7};
+ghost use Rattle.codec.specs.Answer.{row_of};
 ghost use Rattle.codec.specs.Word.{joined};
 
-// 01's numbers of refused calls.
-pub const SIZE: u8 = 1;
+// Why a call is refused: the table of refused calls, row by row.
+#[derive(Clone, Copy, Debug, PartialEq, Eq)]
+pub enum Refusal {
+    Size,
+    Record,
+    Memory,
+    Buffer,
+    Closed,
+    Setting,
+    // a wrong bit, index or check
+    Wrong,
+    // a field too wide
+    Field,
+}
 
-pub const BUFFER: u8 = 4;
+// The number of its row.
+impl From<Refusal> for u8 {
+    ghost from_gives = { λ refusal number. number ≡ row_of refusal };
 
-pub const WRONG: u8 = 7;
-
-pub const FIELD: u8 = 8;
-
-// How many bytes an encoder wrote, or the number of its refusal.
-#[derive(Clone, Copy)]
-pub enum Encoded {
-    Wrote(usize),
-    Refused(u8),
+    fn from(refusal: Refusal) -> u8 {
+        match refusal {
+            Refusal::Size => 1,
+            Refusal::Record => 2,
+            Refusal::Memory => 3,
+            Refusal::Buffer => 4,
+            Refusal::Closed => 5,
+            Refusal::Setting => 6,
+            Refusal::Wrong => 7,
+            Refusal::Field => 8,
+        }
+    }
 }
 
 // `width` more bits behind those of `high`.
@@ -31,15 +48,6 @@ pub fn join(high: u64, width: u32, low: u64) -> u64
         return low;
     }
     (high << width) | (low & ((1u64 << width) - 1))
-}
-
-pub fn join32(high: u32, width: u32, low: u32) -> u32
-    ensures { result ≡ joined 32 high width low }
-{
-    if width >= 32 {
-        return low;
-    }
-    (high << width) | (low & ((1u32 << width) - 1))
 }
 
 // The `width` bits of a word that end at bit `low`.
@@ -55,40 +63,25 @@ pub fn field(word: u64, low: u32, width: u32) -> u64
     (word >> low) & ((1u64 << width) - 1)
 }
 
-pub fn field32(word: u32, low: u32, width: u32) -> u32
-    ensures { result ≡ word / 2 ^ low % 2 ^ width }
-{
-    if low >= 32 {
-        return 0;
-    }
-    if width >= 32 {
-        return word >> low;
-    }
-    (word >> low) & ((1u32 << width) - 1)
-}
-
 // The number of up to eight bytes, high byte first; of more, the last eight count.
 pub fn word(s: &[u8]) -> u64
     ensures { result ≡ number (bits_of s.now) % 2 ^ 64 }
 {
     let mut r: u64 = 0;
-    let mut i: usize = 0;
-    while i < s.len() {
-        r = (r << 8) | (s[i] as u64);
-        i += 1;
+    for byte in s {
+        r = (r << 8) | u64::from(*byte);
     }
     r
 }
 
-// The number of up to four bytes; of more, the last four count.
+// The number of up to four bytes; of more, the last four count. Frames are words of 32 bits, by shifts and masks on bytes and u32; one
+// function over both widths would take a trait of shifts, masks and casts, and be longer than these two.
 pub fn word32(s: &[u8]) -> u32
     ensures { result ≡ number (bits_of s.now) % 2 ^ 32 }
 {
     let mut r: u32 = 0;
-    let mut i: usize = 0;
-    while i < s.len() {
-        r = (r << 8) | (s[i] as u32);
-        i += 1;
+    for byte in s {
+        r = (r << 8) | u32::from(*byte);
     }
     r
 }
@@ -98,42 +91,43 @@ pub fn put(out: &mut [u8], value: u64)
     ensures { out.new ≡ bytes (length out.old) (bits (8 * length out.old) value) }
 {
     let mut v: u64 = value;
-    let mut i: usize = out.len();
-    while i > 0 {
-        i -= 1;
+    for i in (0..out.len()).rev() {
         out[i] = (v & 0xFF) as u8;
         v = v >> 8;
     }
 }
 
+// Of a word of 32 bits, as `word32`.
 pub fn put32(out: &mut [u8], value: u32)
     ensures { out.new ≡ bytes (length out.old) (bits (8 * length out.old) value) }
 {
     let mut v: u32 = value;
-    let mut i: usize = out.len();
-    while i > 0 {
-        i -= 1;
+    for i in (0..out.len()).rev() {
         out[i] = (v & 0xFF) as u8;
         v = v >> 8;
     }
 }
 
-fn least(a: usize, b: usize) -> usize
-    ensures { result ≡ min a b }
+// The first `n` bytes, or all where there are fewer.
+pub fn front(s: &[u8], n: usize) -> &[u8]
+    ensures { result.now ≡ take n s.now }
 {
-    if a < b { a } else { b }
+    &s[..n.min(s.len())]
+}
+
+// What is behind the first `n` bytes.
+pub fn behind(s: &[u8], n: usize) -> &[u8]
+    ensures { result.now ≡ drop n s.now }
+{
+    &s[n.min(s.len())..]
 }
 
 // Copies as many bytes as both have room for, from the front.
 pub fn copy(out: &mut [u8], s: &[u8])
     ensures { out.new ≡ take (length out.old) s.now ++ drop (length s.now) out.old }
 {
-    let n = least(out.len(), s.len());
-    let mut i: usize = 0;
-    while i < n {
-        out[i] = s[i];
-        i += 1;
-    }
+    let n = out.len().min(s.len());
+    out[..n].copy_from_slice(&s[..n]);
 }
 
 // The byte of check and end bit behind bytes: CRC7, then a one.

@@ -1,59 +1,37 @@
 // The lines of a console that call the card with bytes of their own, or take a block.
-use replay_read::behind;
-use replay_read::fields::{begins, equals};
 use replay_read::hex::unhex;
 
-// The first word; every other line is read as in the replay program.
+// A block, a frame with chip select low, or a take.
 #[derive(Clone, Copy)]
-pub enum Word {
-    Blk,
-    Low,
+pub enum Input<'a> {
+    Blk(&'a [u8]),
+    Low(&'a [u8]),
     Take,
-    Other,
 }
 
-// A line as it was read: the word, and the bytes of its field in front of zeros.
-#[derive(Clone, Copy)]
-pub struct Input {
-    pub word: Word,
-    pub count: usize,
-    pub bytes: [u8; 520],
-}
-
-fn bare(word: Word) -> Input {
-    let bytes = [0u8; 520];
-    Input {
-        word: word,
-        count: 0,
-        bytes: bytes,
-    }
-}
-
-// A field of up to 520 bytes, of which the card judges the size. What is no such field the replay program cannot read either.
-fn field(word: Word, digits: &[u8]) -> Input {
-    let mut bytes: [u8; 520] = [0; 520];
+// A field of as many bytes as there is room for, of which the card judges the size.
+fn field<'a>(digits: &[u8], bytes: &'a mut [u8]) -> Option<&'a [u8]> {
     let n = digits.len() / 2;
-    if n <= 520 {
-        if unhex(digits, &mut bytes[0..n]) {
-            return Input {
-                word: word,
-                count: n,
-                bytes: bytes,
-            };
-        }
+    if n > bytes.len() {
+        return None;
     }
-    bare(Word::Other)
+    let field = &mut bytes[..n];
+    if !unhex(digits, field) {
+        return None;
+    }
+    Some(field)
 }
 
-pub fn read(line: &[u8]) -> Input {
-    if begins(line, b"blk\t") {
-        return field(Word::Blk, behind(line, 4));
+// None for every other line, which the replay program reads, or cannot read either.
+pub fn read<'a>(line: &[u8], bytes: &'a mut [u8]) -> Option<Input<'a>> {
+    if let Some(digits) = line.strip_prefix(b"blk\t") {
+        return Some(Input::Blk(field(digits, bytes)?));
     }
-    if begins(line, b"low\t") {
-        return field(Word::Low, behind(line, 4));
+    if let Some(digits) = line.strip_prefix(b"low\t") {
+        return Some(Input::Low(field(digits, bytes)?));
     }
-    if equals(line, b"take") {
-        return bare(Word::Take);
+    if line == b"take".as_slice() {
+        return Some(Input::Take);
     }
-    bare(Word::Other)
+    None
 }

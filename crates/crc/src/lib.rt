@@ -27,10 +27,8 @@ fn turn7(r: u8) -> u8
     ensures { bits 8 result ≡ turns (poly7 ++ (false ∷ [])) 8 (bits 8 r) }
 {
     let mut q = r;
-    let mut k: u8 = 0;
-    while k < 8 {
+    for _ in 0..8u8 {
         q = shift7(q);
-        k += 1;
     }
     q
 }
@@ -40,10 +38,8 @@ pub fn crc7(s: &[u8]) -> u8
     ensures { result ≡ crc7_of s.now }
 {
     let mut r: u8 = 0;
-    let mut i: usize = 0;
-    while i < s.len() {
-        r = turn7(r ^ s[i]);
-        i += 1;
+    for byte in s {
+        r = turn7(r ^ *byte);
     }
     r >> 1
 }
@@ -55,10 +51,8 @@ pub fn crc16(s: &[u8]) -> u16
     // in a local: named in the loop, it would be built for every byte
     let t = table16::table();
     let mut r: u16 = 0;
-    let mut i: usize = 0;
-    while i < s.len() {
-        r = table16::turn(&t, r ^ ((s[i] as u16) << 8));
-        i += 1;
+    for byte in s {
+        r = table16::turn(&t, r ^ ((*byte as u16) << 8));
     }
     r
 }

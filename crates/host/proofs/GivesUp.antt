@@ -18,13 +18,9 @@ use Rattle.host.specs.declared.Phase.{Phase}
 use Rattle.host.specs.declared.Phase.TheVariants.{Start, Sent, Ended}
 use Rattle.host.specs.declared.Found.{Found}
 use Rattle.host.specs.declared.Host.{Host}
-use Rattle.host.specs.declared.Reason.TheVariants.{Heard, Echo}
-use Rattle.host.specs.declared.Next.{Next}
-use Rattle.host.specs.declared.Next.TheVariants.{Send, Selected}
-use Rattle.host.specs.declared.Judgement.{Judgement}
-use Rattle.host.specs.declared.Judgement.TheVariants.{Expected, Busy, Unexpected}
+use Rattle.std.specs.Prelude.{Some}
 use Rattle.host.specs.Sequence.{VOLTAGE, PATTERN, SD_SEND_OP_COND, row}
-use Rattle.host.specs.Reply.{accepted, ready, echoed, judge}
+use Rattle.host.specs.Reply.{Heard, Echo, Judged, Expected, Busy, Unexpected, accepted, ready, echoed, judge}
 use Rattle.host.specs.Host.{Word, sent, selected, stopped, not_ready, Result, begin, UNSOUND, CLOSED, ROOM, unsound, end, counted, sends, of_poll, goes, answered, hears, turns, step}
 use Rattle.host.specs.History.{Feed, fed, next, after, sent_by, frames, is_poll, last_of, busy, LastPollBusy, GivesUp}
 use Rattle.host.proofs.Range.{InRange, in_range}
@@ -52,12 +48,8 @@ At Ended limit polls s = Unit {0}
 abbrev Kept : Host → List ℕ → Type 0
 Kept h s = At h.phase h.limit h.polls s
 
-send_inj : (a b : Command) → Send a ≡ Send b → a ≡ b
-send_inj a b e = cc
-
-abbrev is_send : Next → Bool
-is_send (Send k) = true
-is_send Selected = false
+some_inj : (a b : Command) → Some a ≡ Some b → a ≡ b
+some_inj a b e = cc
 
 -- a poll is left for a command of one
 test-left : (a more : Bool) → a ≡ true → (a && more) ≡ false → more ≡ false
@@ -76,16 +68,16 @@ module _ (limit polls : ℕ) (s : List ℕ) (r : InRange limit polls) where
   late : (k : Command) → early k ≡ false → Early k
   late k l e q = absurd (false≢true (sym l ∙ q))
 
-  follow : (j k : Command) → (early j ≡ true → polls + 1 ≤ limit) → (row j 0).next ≡ Send k → Early k
+  follow : (j k : Command) → (early j ≡ true → polls + 1 ≤ limit) → (row j 0).next ≡ Some k → Early k
   unfolding row counted
-  follow GoIdleState k few n = subst Early (send_inj SendIfCond k n) (λ e q. few refl)
-  follow SendIfCond k few n = subst Early (send_inj AppCmd k n) app
-  follow AppCmd k few n = subst Early (send_inj SdSendOpCond k n) (late SdSendOpCond refl)
-  follow SdSendOpCond k few n = subst Early (send_inj AllSendCid k n) (late AllSendCid refl)
-  follow AllSendCid k few n = subst Early (send_inj SendRelativeAddr k n) (late SendRelativeAddr refl)
-  follow SendRelativeAddr k few n = subst Early (send_inj SendCsd k n) (late SendCsd refl)
-  follow SendCsd k few n = subst Early (send_inj SelectCard k n) (late SelectCard refl)
-  follow SelectCard k few n = absurd (false≢true (ap is_send n))
+  follow GoIdleState k few n = subst Early (some_inj SendIfCond k n) (λ e q. few refl)
+  follow SendIfCond k few n = subst Early (some_inj AppCmd k n) app
+  follow AppCmd k few n = subst Early (some_inj SdSendOpCond k n) (late SdSendOpCond refl)
+  follow SdSendOpCond k few n = subst Early (some_inj AllSendCid k n) (late AllSendCid refl)
+  follow AllSendCid k few n = subst Early (some_inj SendRelativeAddr k n) (late SendRelativeAddr refl)
+  follow SendRelativeAddr k few n = subst Early (some_inj SendCsd k n) (late SendCsd refl)
+  follow SendCsd k few n = subst Early (some_inj SelectCard k n) (late SelectCard refl)
+  follow SelectCard k few n = cc
 
   due : (p : Phase) (k : Command) → At p limit polls s → Due p k → Early k
   unfolding row counted
@@ -138,17 +130,17 @@ limit-stays h (x ∷ xs) = limit-stays (next h x) xs ∙ step-limit h x
 
 -- ---- judgements
 
-abbrev is_busy : Judgement → Bool
+abbrev is_busy : Judged → Bool
 is_busy Expected = false
 is_busy Busy = true
 is_busy (Unexpected r) = false
 
-accepted-busy : (o : Outcome (List ℕ)) (then : List ℕ → Judgement) → ((fields : List ℕ) → is_busy (then fields) ≡ false)
+accepted-busy : (o : Outcome (List ℕ)) (then : List ℕ → Judged) → ((fields : List ℕ) → is_busy (then fields) ≡ false)
     → is_busy (accepted o then) ≡ false
 accepted-busy (done fields) then h = h fields
 accepted-busy (refused k) then h = refl
 
-cond-busy : (b : Bool) (x y : Judgement) → is_busy x ≡ false → is_busy y ≡ false → is_busy (cond b x y) ≡ false
+cond-busy : (b : Bool) (x y : Judged) → is_busy x ≡ false → is_busy y ≡ false → is_busy (cond b x y) ≡ false
 cond-busy true x y p q = p
 cond-busy false x y p q = q
 
@@ -203,14 +195,14 @@ gave h x =
 -- a command of a poll follows an early one
 polls-early : (j : Command) → Polls j → early j ≡ true
 unfolding row
-polls-early GoIdleState p = absurd (false≢true (ap (λ (k : Command). of_poll (row k 0).index) (send_inj SendIfCond p.command p.follows) ∙ p.polls))
+polls-early GoIdleState p = absurd (false≢true (ap (λ (k : Command). of_poll (row k 0).index) (some_inj SendIfCond p.command p.follows) ∙ p.polls))
 polls-early SendIfCond p = refl
 polls-early AppCmd p = refl
-polls-early SdSendOpCond p = absurd (false≢true (ap (λ (k : Command). of_poll (row k 0).index) (send_inj AllSendCid p.command p.follows) ∙ p.polls))
-polls-early AllSendCid p = absurd (false≢true (ap (λ (k : Command). of_poll (row k 0).index) (send_inj SendRelativeAddr p.command p.follows) ∙ p.polls))
-polls-early SendRelativeAddr p = absurd (false≢true (ap (λ (k : Command). of_poll (row k 0).index) (send_inj SendCsd p.command p.follows) ∙ p.polls))
-polls-early SendCsd p = absurd (false≢true (ap (λ (k : Command). of_poll (row k 0).index) (send_inj SelectCard p.command p.follows) ∙ p.polls))
-polls-early SelectCard p = absurd (false≢true (ap is_send p.follows))
+polls-early SdSendOpCond p = absurd (false≢true (ap (λ (k : Command). of_poll (row k 0).index) (some_inj AllSendCid p.command p.follows) ∙ p.polls))
+polls-early AllSendCid p = absurd (false≢true (ap (λ (k : Command). of_poll (row k 0).index) (some_inj SendRelativeAddr p.command p.follows) ∙ p.polls))
+polls-early SendRelativeAddr p = absurd (false≢true (ap (λ (k : Command). of_poll (row k 0).index) (some_inj SendCsd p.command p.follows) ∙ p.polls))
+polls-early SendCsd p = absurd (false≢true (ap (λ (k : Command). of_poll (row k 0).index) (some_inj SelectCard p.command p.follows) ∙ p.polls))
+polls-early SelectCard p = let f = p.follows in cc
 
 -- so it is A41 that was answered busy
 record Shown (polls limit : ℕ) (s reply : List ℕ) : Type 0 where
@@ -268,7 +260,7 @@ a41 SendRelativeAddr e = absurd (false≢true e)
 a41 SendCsd e = absurd (false≢true e)
 a41 SelectCard e = absurd (false≢true e)
 
-is_busy_lem : (j : Judgement) → is_busy j ≡ true → j ≡ Busy
+is_busy_lem : (j : Judged) → is_busy j ≡ true → j ≡ Busy
 is_busy_lem Expected e = absurd (false≢true e)
 is_busy_lem Busy e = refl
 is_busy_lem (Unexpected r) e = absurd (false≢true e)

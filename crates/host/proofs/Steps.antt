@@ -16,13 +16,10 @@ use Rattle.host.specs.declared.Phase.{Phase}
 use Rattle.host.specs.declared.Phase.TheVariants.{Start, Sent, Ended}
 use Rattle.host.specs.declared.Found.{Found}
 use Rattle.host.specs.declared.Host.{Host}
-use Rattle.host.specs.declared.Next.{Next}
-use Rattle.host.specs.declared.Next.TheVariants.{Send, Selected}
-use Rattle.host.specs.declared.Judgement.{Judgement}
-use Rattle.host.specs.declared.Judgement.TheVariants.{Expected, Busy, Unexpected}
+use Rattle.std.specs.Prelude.{Option, Some, None}
 use Rattle.host.specs.declared.Row.{Row}
 use Rattle.host.specs.Sequence.{row}
-use Rattle.host.specs.Reply.{judge, learn}
+use Rattle.host.specs.Reply.{Judged, Expected, Busy, Unexpected, judge, learn}
 use Rattle.host.specs.Host.{Word, sent, selected, stopped, not_ready, Result, UNSOUND, CLOSED, ROOM, unsound, refuse, end, frame, sends, of_poll, goes, follows, answered, hears, turns, step}
 use Rattle.host.specs.History.{is_end}
 
@@ -68,13 +65,13 @@ row-index SelectCard rca = refl
 -- why a command is sent: it is the first, it follows the one that was answered, or the card is busy
 abbrev pub Due : Phase → Command → Type 0
 Due Start k = GoIdleState ≡ k
-Due (Sent j) k = ((row j 0).next ≡ Send k) ⊎ (AppCmd ≡ k)
+Due (Sent j) k = ((row j 0).next ≡ Some k) ⊎ (AppCmd ≡ k)
 Due Ended k = ⊥
 
 -- a command of a poll follows
 pub record Polls (j : Command) : Type 0 where
   pub command : Command
-  pub follows : (row j 0).next ≡ Send command
+  pub follows : (row j 0).next ≡ Some command
   pub polls : of_poll (row command 0).index ≡ true
 
 -- why the host gives up: a poll is due, and none is left
@@ -113,14 +110,14 @@ module _
       here : (A : Phase → Type 0) → A (Sent j) → A h.phase
       here A = subst A (sym at)
 
-      follows-either : (f : Found) (n : Next) → (row j 0).next ≡ n → P (follows h f n out)
+      follows-either : (f : Found) (n : Option Command) → (row j 0).next ≡ n → P (follows h f n out)
       unfolding follows
-      follows-either f (Send k) e =
+      follows-either f (Some k) e =
           goes-either s f k (here (λ p. Due p k) (inl e))
           (λ q l. here (λ p. Spent h p reply) (l, inl (record { command = k; follows = e; polls = ap of_poll (sym (row-index k f.rca)) ∙ q })))
-      follows-either f Selected e = ends s f selected refl tt
+      follows-either f None e = ends s f selected refl tt
 
-      answered-either : (f : Found) (x : Judgement) → judge r.answer r.index reply ≡ x → P (answered h j r.next x f out)
+      answered-either : (f : Found) (x : Judged) → judge r.answer r.index reply ≡ x → P (answered h j r.next x f out)
       unfolding answered
       answered-either f Expected e = follows-either f r.next (sym (row_next j h.found.rca))
       answered-either f Busy e = goes-either s f AppCmd (here (λ p. Due p AppCmd) (inr refl)) (λ q l. here (λ p. Spent h p reply) (l, inr e))

@@ -1,6 +1,7 @@
 -- The host's two calls (02, order 2): refusals first, in the order of 01's table, and then what the call does.
-use Rattle.std.specs.Prelude.{Bool, cond, not, ◌&&◌, ◌||◌, List, [], ◌∷◌, ◌++◌, ℕ, ◌+◌, eqb, leb, ltb, length, drop, replicate}
-use Rattle.codec.specs.Answer.{Outcome, done, refused, BUFFER}
+use Rattle.std.specs.Prelude.{Bool, cond, not, ◌&&◌, ◌||◌, List, [], ◌∷◌, ◌++◌, ℕ, ◌+◌, eqb, leb, ltb, length, drop, replicate, Option, Some, None, Result as Answered, Ok, Err}
+use Rattle.codec.specs.declared.Refusal.{Refusal}
+use Rattle.codec.specs.Answer.{Outcome, done, refused, BUFFER, row_of, outcome_of}
 use Rattle.codec.specs.Format.{image}
 use Rattle.wire_frame.specs.Command.{command}
 use Rattle.host.specs.declared.Command.{Command}
@@ -9,20 +10,13 @@ use Rattle.host.specs.declared.Phase.{Phase}
 use Rattle.host.specs.declared.Phase.TheVariants.{Start, Sent, Ended}
 use Rattle.host.specs.declared.Found.{Found}
 use Rattle.host.specs.declared.Host.{Host}
-use Rattle.host.specs.declared.Reason.{Reason}
 use Rattle.host.specs.declared.Answer.{Answer}
 use Rattle.host.specs.declared.Answer.TheVariants.{Selected, Stopped, NotReady}
 use Rattle.host.specs.declared.Stepped.{Stepped}
-use Rattle.host.specs.declared.Beginning.{Beginning}
-use Rattle.host.specs.declared.Beginning.TheVariants.{Begun}
 use Rattle.host.specs.declared.Started.{Started}
-use Rattle.host.specs.declared.Next.{Next}
-use Rattle.host.specs.declared.Next.TheVariants.{Send}
 use Rattle.host.specs.declared.Row.{Row}
-use Rattle.host.specs.declared.Judgement.{Judgement}
-use Rattle.host.specs.declared.Judgement.TheVariants.{Expected, Busy, Unexpected}
 use Rattle.host.specs.Sequence.{row, APP_CMD, SD_SEND_OP_COND}
-use Rattle.host.specs.Reply.{judge, learn}
+use Rattle.host.specs.Reply.{Cause, Judged, Expected, Busy, Unexpected, judge, learn, cause}
 
 -- ---- numbers of 01's table: the record (row 2), a step after the end (row 5), the limit (row 6)
 
@@ -55,10 +49,9 @@ unknown = record { rca = 0; cid = replicate 16 0; csd = replicate 16 0 }
 abbrev pub begin : ℕ → Host
 begin limit = record { limit = limit; polls = 0; phase = Start; found = unknown }
 
--- 01's numbers of the answers
-abbrev pub started : Beginning → Outcome (Unit {0})
-started Begun = done tt
-started (Beginning.Refused k) = refused k
+-- the numbers of the answers
+abbrev pub started : Answered (Unit {0}) Refusal → Outcome (Unit {0})
+started = outcome_of (λ begun. begun)
 
 pub record Begins : Type 0 where
   pub answer : Outcome (Unit {0})
@@ -74,15 +67,20 @@ pub data Word : Type 0 where
   -- so many bytes of the output buffer, which are the next frame
   sent : ℕ → Word
   selected : Word
-  stopped : Command → Reason → Word
+  stopped : Command → Cause → Word
   not_ready : Word
 
 abbrev pub answer : Answer → Outcome Word
 answer (Answer.Sent n) = done (sent n)
 answer Selected = done selected
-answer (Stopped k r) = done (stopped k r)
+answer (Stopped k r) = done (stopped k (cause r))
 answer NotReady = done not_ready
-answer (Answer.Refused k) = refused k
+answer (Answer.Refused e) = refused (row_of e)
+
+-- an encoder's answer as the host's
+abbrev pub written : Answered ℕ Refusal → Answer
+written (Ok n) = Answer.Sent n
+written (Err e) = Answer.Refused e
 
 pub record Result : Type 0 where
   pub answer : Outcome Word
@@ -127,12 +125,12 @@ of_poll index = eqb index APP_CMD || eqb index SD_SEND_OP_COND
 unfoldable pub goes : Host → Found → Command → List ℕ → Result
 goes h f k out = cond (of_poll (row k f.rca).index && leb h.limit h.polls) (end h f not_ready out) (sends h f k out)
 
-unfoldable pub follows : Host → Found → Next → List ℕ → Result
-follows h f (Send k) out = goes h f k out
-follows h f Next.Selected out = end h f selected out
+unfoldable pub follows : Host → Found → Option Command → List ℕ → Result
+follows h f (Some k) out = goes h f k out
+follows h f None out = end h f selected out
 
 -- by the judgement of a reply to a command, and what is known of the card then: one that is busy is polled again
-unfoldable pub answered : Host → Command → Next → Judgement → Found → List ℕ → Result
+unfoldable pub answered : Host → Command → Option Command → Judged → Found → List ℕ → Result
 answered h k n Expected f out = follows h f n out
 answered h k n Busy f out = goes h f AppCmd out
 answered h k n (Unexpected reason) f out = end h f (stopped k reason) out

@@ -4,16 +4,15 @@ use Rattle.crc.specs.Bits.{bits, number, bits_of, bytes}
 use Rattle.codec.specs.Answer.{Outcome, done, refused}
 use Rattle.host.specs.declared.Command.{Command}
 use Rattle.host.specs.declared.Command.TheVariants.{GoIdleState, SendIfCond, AppCmd, SdSendOpCond, AllSendCid, SendRelativeAddr, SendCsd, SelectCard}
-use Rattle.host.specs.declared.Reason.{Reason}
-use Rattle.host.specs.declared.Reason.TheVariants.{Refused, Heard, Echo}
 use Rattle.host.specs.declared.Host.{Host}
+use Rattle.host.specs.Reply.{Cause, Refused, Heard, Echo}
 use Rattle.host.specs.Host.{Word, sent, selected, stopped, not_ready, begin, step}
 
 -- what a step says: the next frame as a number; an end, with the polls; the number of a refusal
 pub data Says : Type 0 where
   frame : ℕ → Says
   selected_with : ℕ → ℕ → Says
-  stopped_at : Command → Reason → ℕ → Says
+  stopped_at : Command → Cause → ℕ → Says
   gave_up : ℕ → Says
   refuses : ℕ → Says
 

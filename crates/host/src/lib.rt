@@ -1,8 +1,14 @@
-// The host that brings a card up (02, order 2): its types. What its calls do with them is in specs/, and no code is here.
+// The host that brings a card up (02, order 2): its types, and what a refusal becomes in them. What its calls do with them is in specs/.
 #![tactic(auto)]
 
+ghost use Rattle.std.specs.Prelude.{◌≡◌};
+ghost use Rattle.host.specs.declared.Reason.TheVariants as Why;
+ghost use Rattle.host.specs.Host.{written};
+
+use codec::Refusal;
+
 // The commands of the sequence, by the standard's names, in the order in which they are sent.
-#[derive(Clone, Copy)]
+#[derive(Clone, Copy, Debug, PartialEq, Eq)]
 pub enum Command {
     GoIdleState,
     SendIfCond,
@@ -15,7 +21,7 @@ pub enum Command {
 }
 
 // Where the host stands: nothing is sent yet; the answer to a command is due; it has ended.
-#[derive(Clone, Copy)]
+#[derive(Clone, Copy, Debug, PartialEq, Eq)]
 pub enum Phase {
     Start,
     Sent(Command),
@@ -23,7 +29,7 @@ pub enum Phase {
 }
 
 // What the host knows of the card: its address, and CID and CSD as they were received.
-#[derive(Clone, Copy)]
+#[derive(Clone, Copy, Debug, PartialEq, Eq)]
 pub struct Found {
     pub rca: u16,
     pub cid: [u8; 16],
@@ -31,7 +37,7 @@ pub struct Found {
 }
 
 // What the host keeps between steps, a struct by value.
-#[derive(Clone, Copy)]
+#[derive(Clone, Copy, Debug, PartialEq, Eq)]
 pub struct Host {
     // how many A41 may be sent, and how many were
     pub limit: u16,
@@ -41,18 +47,26 @@ pub struct Host {
 }
 
 // Why a reply is not the expected one.
-#[derive(Clone, Copy)]
+#[derive(Clone, Copy, Debug, PartialEq, Eq)]
 pub enum Reason {
-    // the number of the decoder's refusal
-    Refused(u8),
+    // the decoder's refusal
+    Refused(Refusal),
     // something was heard where silence is due
     Heard,
     // an R7 with another voltage or pattern
     Echo,
 }
 
+impl From<Refusal> for Reason {
+    ghost from_gives = { λ refusal reason. reason ≡ Why.Refused refusal };
+
+    fn from(refusal: Refusal) -> Reason {
+        Reason::Refused(refusal)
+    }
+}
+
 // The answer of a step.
-#[derive(Clone, Copy)]
+#[derive(Clone, Copy, Debug, PartialEq, Eq)]
 pub enum Answer {
     // the next frame: so many bytes of the output buffer
     Sent(usize),
@@ -60,34 +74,38 @@ pub enum Answer {
     Selected,
     Stopped { command: Command, reason: Reason },
     NotReady,
-    // the number of the refusal
-    Refused(u8),
+    Refused(Refusal),
 }
 
-#[derive(Clone, Copy)]
+// An encoder's answer as the host's.
+impl From<Result<usize, Refusal>> for Answer {
+    ghost from_gives = { λ encoded given. given ≡ written encoded };
+
+    fn from(encoded: Result<usize, Refusal>) -> Answer {
+        match encoded {
+            Ok(n) => Answer::Sent(n),
+            Err(refusal) => Answer::Refused(refusal),
+        }
+    }
+}
+
+#[derive(Clone, Copy, Debug, PartialEq, Eq)]
 pub struct Stepped {
     pub answer: Answer,
     pub host: Host,
 }
 
-// The answer of a start.
-#[derive(Clone, Copy)]
-pub enum Beginning {
-    Begun,
-    Refused(u8),
-}
-
-// Where the start is refused, every step of the record is refused too.
-#[derive(Clone, Copy)]
+// What a start gives. Where it is refused, every step of the record is refused too.
+#[derive(Clone, Copy, Debug, PartialEq, Eq)]
 pub struct Started {
-    pub answer: Beginning,
+    pub answer: Result<(), Refusal>,
     pub host: Host,
 }
 
 // ---- a row of the sequence
 
 // The answer that is expected. An R2 carries one of two registers.
-#[derive(Clone, Copy)]
+#[derive(Clone, Copy, Debug, PartialEq, Eq)]
 pub enum Kind {
     Silence,
     R1,
@@ -98,33 +116,27 @@ pub enum Kind {
     Csd,
 }
 
-// What follows the expected answer.
-#[derive(Clone, Copy)]
-pub enum Next {
-    Send(Command),
-    Selected,
-}
-
-#[derive(Clone, Copy)]
+#[derive(Clone, Copy, Debug, PartialEq, Eq)]
 pub struct Row {
     pub index: u8,
     pub argument: u32,
     pub answer: Kind,
-    pub next: Next,
+    // what follows the expected answer; after the last command the card is selected
+    pub next: Option<Command>,
 }
 
 // ---- a reply
 
-#[derive(Clone, Copy)]
+// What an accepted reply says of the sequence.
+#[derive(Clone, Copy, Debug, PartialEq, Eq)]
 pub enum Judgement {
     Expected,
     // an R3 with bit 31 clear
     Busy,
-    Unexpected(Reason),
 }
 
-// The judgement, and what is known of the card then.
-#[derive(Clone, Copy)]
+// The judgement of a reply, and what is known of the card then.
+#[derive(Clone, Copy, Debug, PartialEq, Eq)]
 pub struct Heard {
     pub judgement: Judgement,
     pub found: Found,

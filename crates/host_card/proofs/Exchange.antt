@@ -3,17 +3,16 @@ use mathlib.Core.Path.{◌≡◌, refl, sym, ap, subst, ◌∙◌}
 use mathlib.Core.Bool.{Bool, true, false}
 use mathlib.Core.List.{List, [], ◌∷◌, ◌++◌}
 use Prim.Native.Nat.{ℕ, suc, ◌≤◌}
-use native.Mathlib.Omega.{arith}
 use lib.Dec.{eqb}
 use lib.ListN.{length, take, drop}
 use lib.Seq.{take_at}
+use Rattle.std.specs.Prelude.{Ok, Err}
 use Rattle.codec.specs.Answer.{done, refused}
 use Rattle.codec.specs.Layout.{fits}
 use Rattle.codec.specs.Format.{image}
 use Rattle.codec.proofs.RoundTrip.{length-image}
-use Rattle.wire_frame.specs.Command.{command, frame_check, frame_outcome}
-use Rattle.wire_frame.specs.declared.command.FrameCheck.{FrameCheck}
-use Rattle.wire_frame.specs.declared.command.FrameCheck.TheVariants.{Good, Size, Start, Check}
+use Rattle.wire_frame.specs.Command.{command, FrameCheck, good, frame_check, frame_outcome}
+use Rattle.wire_frame.specs.declared.command.Fault.TheVariants.{Size, Start, Check}
 use Rattle.wire_frame.proofs.Commands.{frame-decoded}
 use Rattle.wire_frame.proofs.RoundTrips.{command_trip}
 use Rattle.host.specs.declared.Command.{Command}
@@ -34,14 +33,17 @@ use Rattle.host_card.specs.Joined.{Buffers, heard_of, Meeting, meeting, joined}
 
 -- ---- the frame
 
-good-check : (k : FrameCheck) (index argument : ℕ) → frame_outcome k ≡ done (index ∷ argument ∷ []) → k ≡ Good index argument
-good-check (Good i a) index argument e = cc
-good-check Size index argument e = let z : ◌≡◌ {A = ℕ} 0 1 = cc in absurd (omega arith)
-good-check Start index argument e = let z : ◌≡◌ {A = ℕ} 0 1 = cc in absurd (omega arith)
-good-check Check index argument e = let z : ◌≡◌ {A = ℕ} 0 1 = cc in absurd (omega arith)
+good-check : (k : FrameCheck) (index argument : ℕ) → frame_outcome k ≡ done (index ∷ argument ∷ []) → k ≡ good index argument
+good-check (Ok fields) index argument e =
+    let p : fields.index ≡ index = cc in
+    let q : fields.argument ≡ argument = cc in
+    λ i. good (p i) (q i)
+good-check (Err Size) index argument e = cc
+good-check (Err Start) index argument e = cc
+good-check (Err Check) index argument e = cc
 
 frame-good : (index argument : ℕ) → fits command.slots (index ∷ argument ∷ []) ≡ true
-    → frame_check (image command (index ∷ argument ∷ [])) ≡ Good index argument
+    → frame_check (image command (index ∷ argument ∷ [])) ≡ good index argument
 frame-good index argument fit = good-check _ index argument (frame-decoded _ ∙ command_trip.decode-encode (index ∷ argument ∷ []) fit)
 
 -- ---- the card

@@ -7,6 +7,7 @@ use native.Mathlib.Omega.{arith}
 use borrow.Author.Tests.{lt-leb}
 use lib.Dec.{leb}
 use lib.ListN.{replicate}
+use Rattle.std.specs.Prelude.{Some}
 use Rattle.wire_response.specs.Response.{r2_bytes}
 use Rattle.host.specs.declared.Command.{Command}
 use Rattle.host.specs.declared.Command.TheVariants.{GoIdleState, SendIfCond, AppCmd, SdSendOpCond, AllSendCid, SendRelativeAddr, SendCsd, SelectCard}
@@ -14,10 +15,8 @@ use Rattle.host.specs.declared.Phase.{Phase}
 use Rattle.host.specs.declared.Phase.TheVariants.{Start, Sent}
 use Rattle.host.specs.declared.Found.{Found}
 use Rattle.host.specs.declared.Host.{Host}
-use Rattle.host.specs.declared.Next.TheVariants.{Send}
-use Rattle.host.specs.declared.Judgement.TheVariants.{Expected}
 use Rattle.host.specs.Sequence.{row}
-use Rattle.host.specs.Reply.{with_rca, with_cid, with_csd, judge, learn}
+use Rattle.host.specs.Reply.{Expected, with_rca, with_cid, with_csd, judge, learn}
 use Rattle.host.specs.Host as Host
 use Rattle.host.specs.Host.{MOST, Result, unknown, begin, unsound, end, counted, sends, of_poll}
 use Rattle.card.specs.declared.Settings.{Settings}
@@ -57,7 +56,7 @@ module _
     -- an expected reply, and the exchange that the next command makes
     replied : (n polls : ℕ) {w v : World} (reply : List ℕ) {heard : List ℕ} (f g : Found) (k next : Command) → polls ≤ limit
         → judge (row k f.rca).answer (row k f.rca).index reply ≡ Expected → learn (row k f.rca).answer f reply ≡ g
-        → (row k f.rca).next ≡ Send next → (of_poll (row next g.rca).index && leb limit polls) ≡ false
+        → (row k f.rca).next ≡ Some next → (of_poll (row next g.rca).index && leb limit polls) ≡ false
         → Turns w (row next g.rca).index (row next g.rca).argument v heard
         → (Sound v → Up n (sends (host polls (Sent k) f) g next (b.host (suc n))).host v heard) → Sound w → Up (suc n) (host polls (Sent k) f) w reply
     replied n polls {w} {v} reply {heard} f g k next few j l e more t then here =

@@ -20,9 +20,8 @@ use Rattle.card.specs.declared.Settings.{Settings}
 use Rattle.card.specs.Settings.{allowed, csd_of, cid_bytes, csd_bytes}
 use Rattle.card.proofs.Registers.{cid-fits, csd-fits, cid_shape, csd_shape}
 use Rattle.host.specs.declared.Kind.TheVariants.{R1, R3, R6, R7, Cid, Csd}
-use Rattle.host.specs.declared.Judgement.TheVariants.{Expected, Busy}
 use Rattle.host.specs.declared.Found.{Found}
-use Rattle.host.specs.Reply.{with_rca, with_cid, with_csd, judge, learn}
+use Rattle.host.specs.Reply.{Expected, Busy, with_rca, with_cid, with_csd, judge, learn}
 use Rattle.host_card.proofs.Turns.{echo, marked, busy_ocr, ready_ocr, published, chosen}
 
 -- ---- the short responses

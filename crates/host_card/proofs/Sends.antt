@@ -6,16 +6,14 @@ use Prim.Native.Nat.{ℕ, ◌≤◌}
 use borrow.Author.Tests.{le-ltb}
 use lib.Dec.{leb}
 use lib.ListN.{length}
+use Rattle.std.specs.Prelude.{Some, None}
 use Rattle.host.specs.declared.Command.{Command}
 use Rattle.host.specs.declared.Command.TheVariants.{GoIdleState, AppCmd}
 use Rattle.host.specs.declared.Phase.TheVariants.{Start, Sent}
 use Rattle.host.specs.declared.Found.{Found}
 use Rattle.host.specs.declared.Host.{Host}
-use Rattle.host.specs.declared.Next.TheVariants.{Send, Selected}
-use Rattle.host.specs.declared.Judgement.{Judgement}
-use Rattle.host.specs.declared.Judgement.TheVariants.{Expected, Busy}
 use Rattle.host.specs.Sequence.{row}
-use Rattle.host.specs.Reply.{judge, learn}
+use Rattle.host.specs.Reply.{Judged, Expected, Busy, judge, learn}
 use Rattle.host.specs.Host.{ROOM, unsound, selected, end, sends, of_poll, goes, follows, answered, hears, turns, step}
 
 module _ (h : Host) (reply out : List ℕ) (sound : unsound h.limit h.polls ≡ false) (room : ROOM ≤ length out) where
@@ -29,10 +27,10 @@ module _ (h : Host) (reply out : List ℕ) (sound : unsound h.limit h.polls ≡ 
 
   -- a reply to a command that teaches the host this
   module _ (k : Command) (f : Found) (due : h.phase ≡ Sent k) (learns : learn (row k h.found.rca).answer h.found reply ≡ f) where
-    abbrev shows : Judgement → Type 0
+    abbrev shows : Judged → Type 0
     shows j = judge (row k h.found.rca).answer (row k h.found.rca).index reply ≡ j
 
-    pub sends-next : shows Expected → (next : Command) → (row k h.found.rca).next ≡ Send next
+    pub sends-next : shows Expected → (next : Command) → (row k h.found.rca).next ≡ Some next
         → (of_poll (row next f.rca).index && leb h.limit h.polls) ≡ false → step h reply out ≡ sends h f next out
     unfolding turns hears answered follows goes
     sends-next j next e more = runs ∙ rw (due, j, learns, e, more)
@@ -41,6 +39,6 @@ module _ (h : Host) (reply out : List ℕ) (sound : unsound h.limit h.polls ≡ 
     unfolding turns hears answered goes row
     polls-again j more = runs ∙ rw (due, j, learns, more)
 
-    pub selects : shows Expected → (row k h.found.rca).next ≡ Selected → step h reply out ≡ end h f selected out
+    pub selects : shows Expected → (row k h.found.rca).next ≡ None → step h reply out ≡ end h f selected out
     unfolding turns hears answered follows
     selects j e = runs ∙ rw (due, j, learns, e)

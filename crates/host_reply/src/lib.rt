@@ -1,204 +1,139 @@
-// A reply of the card, held against the answer that a command expects. Each kind's decoder first; what it read is taken apart by
-// let .. else.
+// A reply of the card, held against the answer that a command expects, and what it tells of the card. Each step takes the decoded reply
+// apart by let .. else, which is the form that was asked for, and not by `?`.
 #![tactic(auto)]
 
-ghost use Rattle.std.specs.Prelude.{◌≡◌, cond, eqb};
-ghost use Rattle.codec.specs.Answer.{why};
-ghost use Rattle.wire_response.specs.Response.{decode_r2};
-ghost use Rattle.wire_response_decode.specs.Reply.{r1_read, r3_read, r6_read, r7_read};
-ghost use Rattle.host.specs.Reply.{judge, accepted};
-ghost use Rattle.host_reply.specs.Read.{heard, received};
+ghost use Rattle.std.specs.Prelude.{◌≡◌};
+ghost use Rattle.codec.specs.Answer.{outcome_of};
+ghost use Rattle.codec.specs.Format.{decode};
+ghost use Rattle.wire_response.specs.Response.{decode_r2, r6};
+ghost use Rattle.host.specs.Reply.{judge};
+ghost use Rattle.host_reply.specs.Read.{judged, heard, seen, address_in};
 
+use codec::Refusal;
 use host::{Found, Heard, Judgement, Kind, Reason};
 use host_sequence::echoes;
 use wire_response_decode::{
-    R1Read, R3Read, R6Read, R7Read, decode_r1, decode_r2, decode_r3, decode_r6, decode_r7,
+    Echo, Published, decode_r1, decode_r2, decode_r3, decode_r6, decode_r7,
 };
 
-// What `decode_r2` says by its number.
-#[derive(Clone, Copy)]
-enum R2Read {
-    Register,
-    Refused,
-}
-
-fn silence(reply: &[u8]) -> Judgement
-    ensures { result ≡ judge Kind.Silence 0 reply.now }
+#[tactic(auto, unfolding(host::specs::Reply::judge))]
+fn silence(reply: &[u8]) -> Result<Judgement, Reason>
+    ensures { judged result ≡ judge Kind.Silence 0 reply.now }
 {
-    if reply.len() == 0 {
-        return Judgement::Expected;
+    if !reply.is_empty() {
+        return Err(Reason::Heard);
     }
-    Judgement::Unexpected(Reason::Heard)
-}
-
-// The number of a refusal; 0 of what was accepted.
-fn r1_number(read: R1Read) -> u8
-    ensures { result ≡ why (r1_read read) }
-{
-    match read {
-        R1Read::Status(_) => 0,
-        R1Read::Refused(k) => k,
-    }
-}
-
-fn r3_number(read: R3Read) -> u8
-    ensures { result ≡ why (r3_read read) }
-{
-    match read {
-        R3Read::Ocr(_) => 0,
-        R3Read::Refused(k) => k,
-    }
-}
-
-fn r6_number(read: R6Read) -> u8
-    ensures { result ≡ why (r6_read read) }
-{
-    match read {
-        R6Read::Published { rca: _, status: _ } => 0,
-        R6Read::Refused(k) => k,
-    }
-}
-
-fn r7_number(read: R7Read) -> u8
-    ensures { result ≡ why (r7_read read) }
-{
-    match read {
-        R7Read::Echo {
-            voltage: _,
-            pattern: _,
-        } => 0,
-        R7Read::Refused(k) => k,
-    }
+    Ok(Judgement::Expected)
 }
 
 // The status may show errors.
-fn r1(index: u8, reply: &[u8]) -> Judgement
-    ensures { result ≡ judge Kind.R1 index reply.now }
+#[tactic(auto, unfolding(host::specs::Reply::judge))]
+fn r1(index: u8, reply: &[u8]) -> Result<Judgement, Reason>
+    ensures { judged result ≡ judge Kind.R1 index reply.now }
 {
     let read = decode_r1(index, reply);
-    let R1Read::Status(_) = read else {
-        return Judgement::Unexpected(Reason::Refused(r1_number(read)));
+    let Ok(_) = read else {
+        return Err(Reason::Refused(read.unwrap_err()));
     };
-    Judgement::Expected
+    Ok(Judgement::Expected)
 }
 
 // Bit 31 clear is busy, whatever the window.
-fn r3(reply: &[u8]) -> Judgement
-    ensures { result ≡ judge Kind.R3 0 reply.now }
+#[tactic(auto, unfolding(host::specs::Reply::judge))]
+fn r3(reply: &[u8]) -> Result<Judgement, Reason>
+    ensures { judged result ≡ judge Kind.R3 0 reply.now }
 {
     let read = decode_r3(reply);
-    let R3Read::Ocr(ocr) = read else {
-        return Judgement::Unexpected(Reason::Refused(r3_number(read)));
+    let Ok(ocr) = read else {
+        return Err(Reason::Refused(read.unwrap_err()));
     };
-    if codec::field32(ocr, 31, 1) == 1 {
-        return Judgement::Expected;
+    if ocr >> 31 == 0 {
+        return Ok(Judgement::Busy);
     }
-    Judgement::Busy
+    Ok(Judgement::Expected)
 }
 
 // Voltage and pattern must be those that were sent.
-fn r7(reply: &[u8]) -> Judgement
-    ensures { result ≡ judge Kind.R7 0 reply.now }
+#[tactic(auto, unfolding(host::specs::Reply::judge))]
+fn r7(reply: &[u8]) -> Result<Judgement, Reason>
+    ensures { judged result ≡ judge Kind.R7 0 reply.now }
 {
     let read = decode_r7(reply);
-    let R7Read::Echo { voltage, pattern } = read else {
-        return Judgement::Unexpected(Reason::Refused(r7_number(read)));
+    let Ok(Echo { voltage, pattern }) = read else {
+        return Err(Reason::Refused(read.unwrap_err()));
     };
-    if echoes(voltage, pattern) {
-        return Judgement::Expected;
+    if !echoes(voltage, pattern) {
+        return Err(Reason::Echo);
     }
-    Judgement::Unexpected(Reason::Echo)
+    Ok(Judgement::Expected)
 }
 
-// A reply that tells nothing of the card.
-fn known(judgement: Judgement, found: Found) -> Heard
-    ensures { result ≡ record { judgement = judgement; found = found } }
+// A register's sixteen bytes, its own check among them.
+fn register(reply: &[u8]) -> Result<[u8; 16], Refusal>
+    ensures { outcome_of (λ s. s) result ≡ decode_r2 reply.now }
 {
-    Heard { judgement, found }
+    let read = decode_r2(reply);
+    let Ok(bytes) = read else {
+        return Err(read.unwrap_err());
+    };
+    let mut register = [0; 16];
+    register.copy_from_slice(bytes);
+    Ok(register)
 }
 
-fn refused(found: Found, number: u8) -> Heard
-    ensures { result ≡ record { judgement = Judgement.Unexpected (Reason.Refused number); found = found } }
-{
-    known(Judgement::Unexpected(Reason::Refused(number)), found)
-}
-
-fn r6(found: Found, reply: &[u8]) -> Heard
-    ensures { result ≡ heard Kind.R6 0 found reply.now }
+// The card's address.
+fn published(reply: &[u8]) -> Result<u16, Refusal>
+    ensures { outcome_of (λ rca. rca) result ≡ address_in (decode r6 reply.now) }
 {
     let read = decode_r6(reply);
-    let R6Read::Published { rca, status: _ } = read else {
-        return refused(found, r6_number(read));
+    let Ok(Published { rca, .. }) = read else {
+        return Err(read.unwrap_err());
     };
-    let cid = found.cid;
-    let csd = found.csd;
-    Heard {
-        judgement: Judgement::Expected,
-        found: Found { rca, cid, csd },
-    }
+    Ok(rca)
 }
 
-fn r2_read(number: u8) -> R2Read
-    ensures { result ≡ cond (eqb number 0) R2Read.Register R2Read.Refused }
-{
-    if number == 0 {
-        return R2Read::Register;
-    }
-    R2Read::Refused
-}
-
-// The register's sixteen bytes, its own check among them. A reply that the decoder refuses leaves them as they were.
-fn r2(reply: &[u8], register: &mut [u8; 16]) -> Judgement
-    ensures { (result ≡ accepted (decode_r2 reply.now) (λ s. Judgement.Expected))
-        × (register.new ≡ received (decode_r2 reply.now) register.old) }
-{
-    let mut number: u8 = 0;
-    let s = decode_r2(reply, &mut number);
-    let read = r2_read(number);
-    let R2Read::Register = read else {
-        return Judgement::Unexpected(Reason::Refused(number));
-    };
-    codec::copy(register, s);
-    Judgement::Expected
-}
-
-fn cid(found: Found, reply: &[u8]) -> Heard
-    ensures { result ≡ heard Kind.Cid 0 found reply.now }
-{
-    let rca = found.rca;
-    let mut cid = found.cid;
-    let csd = found.csd;
-    let judgement = r2(reply, &mut cid);
-    Heard {
-        judgement,
-        found: Found { rca, cid, csd },
-    }
-}
-
-fn csd(found: Found, reply: &[u8]) -> Heard
-    ensures { result ≡ heard Kind.Csd 0 found reply.now }
-{
-    let rca = found.rca;
-    let cid = found.cid;
-    let mut csd = found.csd;
-    let judgement = r2(reply, &mut csd);
-    Heard {
-        judgement,
-        found: Found { rca, cid, csd },
-    }
-}
-
-// By the kind that is expected, to a command of this index.
-pub fn hear(kind: Kind, index: u8, found: Found, reply: &[u8]) -> Heard
-    ensures { result ≡ heard kind index found reply.now }
+// By the kind that is expected, to a command of this index. A reply that is refused tells nothing of the card.
+#[tactic(auto, unfolding(host::specs::Reply::judge, host::specs::Reply::learn))]
+pub fn hear(kind: Kind, index: u8, found: Found, reply: &[u8]) -> Result<Heard, Reason>
+    ensures { seen found result ≡ heard kind index found reply.now }
 {
     match kind {
-        Kind::Silence => known(silence(reply), found),
-        Kind::R1 => known(r1(index, reply), found),
-        Kind::R3 => known(r3(reply), found),
-        Kind::R6 => r6(found, reply),
-        Kind::R7 => known(r7(reply), found),
-        Kind::Cid => cid(found, reply),
-        Kind::Csd => csd(found, reply),
+        Kind::Silence => Ok(Heard {
+            judgement: silence(reply)?,
+            found,
+        }),
+        Kind::R1 => Ok(Heard {
+            judgement: r1(index, reply)?,
+            found,
+        }),
+        Kind::R3 => Ok(Heard {
+            judgement: r3(reply)?,
+            found,
+        }),
+        Kind::R6 => Ok(Heard {
+            judgement: Judgement::Expected,
+            found: Found {
+                rca: published(reply)?,
+                ..found
+            },
+        }),
+        Kind::R7 => Ok(Heard {
+            judgement: r7(reply)?,
+            found,
+        }),
+        Kind::Cid => Ok(Heard {
+            judgement: Judgement::Expected,
+            found: Found {
+                cid: register(reply)?,
+                ..found
+            },
+        }),
+        Kind::Csd => Ok(Heard {
+            judgement: Judgement::Expected,
+            found: Found {
+                csd: register(reply)?,
+                ..found
+            },
+        }),
     }
 }

@@ -1,2 +1,2 @@
 -- What the code of a step hands on.
-pub mod Report
+pub mod Turn

@@ -1,5 +1,4 @@
--- Laws that belong to no one function: values that fit, words of fields, the sixteen bytes, the round trips.
-pub mod Fits
+-- Laws that belong to no one function: words of fields, the sixteen bytes, the round trips.
 pub mod Words
 pub mod Sixteen
 pub mod RoundTrips

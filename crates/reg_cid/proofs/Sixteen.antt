@@ -5,16 +5,18 @@ use mathlib.Core.List.{List, [], ◌∷◌, ◌++◌, append_assoc, append-nil}
 use Prim.Native.Nat.{ℕ, ◌+◌, ◌*◌, ◌%◌, ◌^◌, ◌<◌, ◌≤◌}
 use native.Mathlib.Nat.{mod-mod}
 use native.Mathlib.Omega.{arith}
-use borrow.Author.Tests.{eq-eqb, ne_eqb, eqb-true, eqb-false, lt-ltb, le-ltb}
+use borrow.Author.Tests.{eq-eqb, ne_eqb, eqb-true, eqb-false}
 use lib.Dec.{eqb, lit≤}
 use lib.ListN.{length, get_or, take, drop, set, length-append, length-drop, drop_of_length-le}
 use lib.Pow.{mod-mod-pow}
-use lib.Seq.{take_at, take_all, drop_at, set_at, drop-cons, drop-drop, length-take-le, take-append-le, drop-append-le}
+use lib.Seq.{take_at, drop_at, set_at, drop-cons, drop-drop, length-take-le, take-append-le, drop-append-le}
 use Rattle.crc.specs.Bits.{bits, number, bits_of, bytes}
 use Rattle.crc.specs.Crc.{crc, poly7}
 use Rattle.crc.proofs.Bits.{length-bits, length-bytes, bytes_append, bits_cong}
 use Rattle.crc.specs.Detection.{same}
-use Rattle.codec.specs.Answer.{done, refused, SIZE, WRONG, BUFFER, FIELD, refuse, emit, Encoding}
+use Rattle.codec.specs.declared.Refusal.{Refusal}
+use Rattle.codec.specs.declared.Refusal.TheVariants.{Size, Record, Memory, Buffer, Closed, Setting, Wrong, Field}
+use Rattle.codec.specs.Answer.{row_of, done, refused, SIZE, WRONG}
 use Rattle.codec.specs.Layout.{Slot, field, reserved, fixed, width, write, read, judged, fits}
 use Rattle.codec.specs.Format.{Format, crc7_from, ended, image, right, encode, decode}
 use Rattle.codec.proofs.Words.{right-ended, image-ended, bits_of-word}
@@ -28,9 +30,9 @@ checked slots = record { size = 16; slots = slots; ending = crc7_from 0 }
 
 -- ---- the verdict
 
-pub verdict-size : (s : List ℕ) → (length s ≡ 16 → ⊥) → SIZE ≡ verdict s
+pub verdict_size : (s : List ℕ) → (length s ≡ 16 → ⊥) → SIZE ≡ verdict s
 unfolding verdict
-verdict-size s h = rw (ne_eqb (length s) 16 h)
+verdict_size s h = rw (ne_eqb (length s) 16 h)
 
 module _ (s : List ℕ) (c : ℕ) (whole : length s ≡ 16) (byte : get_or s 15 0 < 256) (fit : c < 256)
     (seal : bits 8 c ≡ crc poly7 (bits_of (take 15 s)) ++ (true ∷ [])) where
@@ -41,11 +43,11 @@ module _ (s : List ℕ) (c : ℕ) (whole : length s ≡ 16) (byte : get_or s 15 
       (eq-eqb (length s) 16 whole)
       (right-ended (checked (field 120 ∷ [])) s 15 0 c refl refl whole (lit≤ tt) byte fit seal)
 
-  pub verdict-wrong : (get_or s 15 0 ≡ c → ⊥) → WRONG ≡ verdict s
-  verdict-wrong h = sym (verdict-sealed ∙ ap (λ (p : Bool). cond p 0 WRONG) (ne_eqb (get_or s 15 0) c h))
+  pub verdict_wrong : (get_or s 15 0 ≡ c → ⊥) → WRONG ≡ verdict s
+  verdict_wrong h = sym (verdict-sealed ∙ ap (λ (p : Bool). cond p 0 WRONG) (ne_eqb (get_or s 15 0) c h))
 
-  pub verdict-right : get_or s 15 0 ≡ c → 0 ≡ verdict s
-  verdict-right h = sym (verdict-sealed ∙ ap (λ (p : Bool). cond p 0 WRONG) (eq-eqb (get_or s 15 0) c h))
+  pub verdict_right : get_or s 15 0 ≡ c → 0 ≡ verdict s
+  verdict_right h = sym (verdict-sealed ∙ ap (λ (p : Bool). cond p 0 WRONG) (eq-eqb (get_or s 15 0) c h))
 
 -- ---- writing
 
@@ -120,46 +122,31 @@ pub sixteen-image : (slots : List Slot) (vs : List ℕ) (first rest : ℕ) → c
 unfolding sixteen image
 sixteen-image slots vs first rest e = ap (λ (x : List Bool). bytes 16 (x ++ ended (crc7_from 0) x)) e
 
--- what `copy` makes of a buffer with the sixteen bytes s, and the answer with it
-pub copied : (s out mid : List ℕ) → length s ≡ 16 → 17 ≤ length out → mid ≡ take (length (take 16 out)) s ++ drop (length s) (take 16 out)
-    → ◌≡◌ {A = Encoding} (record { answer = done 16; buffer = mid ++ drop 16 out }) (emit s out)
-copied s out mid h room e =
-    let l : length (take 16 out) ≡ 16 = length-take-le 16 out (omega arith) in
-    let m : mid ≡ s =
-    e
-    ∙ ap₂ (λ (x y : List ℕ). x ++ y) (take_all (length (take 16 out)) s (omega arith))
-    (drop_of_length-le (take 16 out) {i = length s} (omega arith))
-    ∙ append-nil s in
-    ap₂ (λ (l : List ℕ) (k : ℕ). record { answer = done k; buffer = l ++ drop k out }) m (sym h)
-
 -- ---- what is emitted
 
-module _ (fit : Bool) (first rest : ℕ) (out : List ℕ) where
-  pub emitted-small : length out < 17 → refuse BUFFER out ≡ emitted fit first rest out
-  unfolding emitted
-  emitted-small h = rw (lt-ltb (length out) 17 h)
-
-  pub emitted-unfit : 17 ≤ length out → fit ≡ false → refuse FIELD out ≡ emitted fit first rest out
-  unfolding emitted
-  emitted-unfit h n = rw (le-ltb (length out) 17 h, n)
-
-  pub emitted-done : 17 ≤ length out → fit ≡ true → emit (sixteen first rest) out ≡ emitted fit first rest out
-  unfolding emitted
-  emitted-done h n = rw (le-ltb (length out) 17 h, n)
-
-  pub emitted-encode : (slots : List Slot) (vs : List ℕ) → fit ≡ fits slots vs → content first rest ≡ write slots vs
-      → emitted fit first rest out ≡ encode (checked slots) vs out
-  unfolding emitted sixteen encode image
-  emitted-encode slots vs h e = rw (h, e)
+pub emitted_encode : (fit : Bool) (first rest : ℕ) (out : List ℕ) (slots : List Slot) (vs : List ℕ) → fit ≡ fits slots vs → content first rest ≡ write slots vs
+    → emitted fit first rest out ≡ encode (checked slots) vs out
+unfolding emitted sixteen encode image
+emitted_encode fit first rest out slots vs h e = rw (h, e)
 
 -- ---- reading
 
-pub verdict-whole : (why : ℕ) (s : List ℕ) → why ≡ verdict s → why ≡ 0 → length s ≡ 16
-verdict-whole why s e z = go (eqb (length s) 16) refl
+row_pos : (e : Refusal) → row_of e ≡ 0 → ⊥
+row_pos Size h = absurd (omega arith)
+row_pos Record h = absurd (omega arith)
+row_pos Memory h = absurd (omega arith)
+row_pos Buffer h = absurd (omega arith)
+row_pos Closed h = absurd (omega arith)
+row_pos Setting h = absurd (omega arith)
+row_pos Wrong h = absurd (omega arith)
+row_pos Field h = absurd (omega arith)
+
+verdict_whole : (s : List ℕ) → 0 ≡ verdict s → length s ≡ 16
+verdict_whole s e = go (eqb (length s) 16) refl
   where
     go : (p : Bool) → eqb (length s) 16 ≡ p → length s ≡ 16
     go true h = eqb-true (length s) 16 h
-    go false h = absurd (omega (arith, verdict-size s (eqb-false (length s) 16 h)))
+    go false h = absurd (omega (arith, verdict_size s (eqb-false (length s) 16 h)))
 
 bits_of-content : (s : List ℕ) → length s ≡ 16 → (a b : ℕ)
     → a ≡ number (bits_of (take 8 s)) % 2 ^ 64 → b ≡ number (bits_of (take 7 (drop 8 s))) % 2 ^ 64
@@ -199,15 +186,14 @@ module _ (slots : List Slot) (wide : width slots ≡ 120) (free : (bs : List Boo
       go false true = refl
       go false false = refl
 
-  pub decode-refused : (why : ℕ) → why ≡ verdict s → (why ≡ 0 → ⊥) → refused why ≡ decode (checked slots) s
-  decode-refused why e h = ap refused e ∙ sym (rw (ne_eqb (verdict s) 0 (λ z. h (e ∙ z))) at decode-verdict)
+  pub decode_refused : (e : Refusal) → row_of e ≡ verdict s → refused (row_of e) ≡ decode (checked slots) s
+  decode_refused e h = ap refused h ∙ sym (rw (ne_eqb (verdict s) 0 (λ z. row_pos e (h ∙ z))) at decode-verdict)
 
-  pub decode_fields : (why a b : ℕ) → why ≡ verdict s → why ≡ 0
+  pub decode_fields : (a b : ℕ) → 0 ≡ verdict s
       → a ≡ number (bits_of (take 8 s)) % 2 ^ 64 → b ≡ number (bits_of (take 7 (drop 8 s))) % 2 ^ 64
       → done (read slots (content a b)) ≡ decode (checked slots) s
-  decode_fields why a b e z ha hb =
-      let v : verdict s ≡ 0 = sym e ∙ z in
+  decode_fields a b e ha hb =
       sym
-      ((rw (eq-eqb (verdict s) 0 v) at decode-verdict)
-      ∙ ap (λ (x : List Bool). done (read slots x)) (bits_of-content s (verdict-whole why s e z) a b ha hb)
+      ((rw (eq-eqb (verdict s) 0 (sym e)) at decode-verdict)
+      ∙ ap (λ (x : List Bool). done (read slots x)) (bits_of-content s (verdict_whole s e) a b ha hb)
       ∙ ap done (read_append slots (content a b) (bits_of (drop 7 (drop 8 s))) (omega (arith, wide, length-content a b))))

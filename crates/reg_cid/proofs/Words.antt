@@ -1,15 +1,13 @@
 -- Words of a register: what they hold as bits, what a layout reads of them, and their bytes.
 use mathlib.Core.Path.{◌≡◌, refl, sym, ap, ap₂, ◌∙◌}
-use mathlib.Core.Bool.{Bool}
+use mathlib.Core.Bool.{Bool, true, false}
 use mathlib.Core.List.{List, [], ◌∷◌, ◌++◌, append_assoc, append-nil}
 use Prim.Native.Nat.{ℕ, ◌+◌, ◌-◌, ◌*◌, ◌/◌, ◌%◌, ◌^◌, ◌≤◌}
-use native.Mathlib.Nat.{mod-lt, lt_of_lt_of_le}
 use native.Mathlib.Omega.{arith}
-use mir.Syntax.{w8}
-use mir.Val.{Fits}
+use mir.Val.{bool_byte as from_bool}
 use lib.Dec.{eqb}
 use lib.ListN.{length, drop, length-append}
-use lib.Pow.{pow_pos, pow_mono, shr-shr}
+use lib.Pow.{shr-shr}
 use lib.Seq.{take_at, drop_at}
 use Rattle.crc.specs.Bits.{digit, bits, number, bytes}
 use Rattle.crc.proofs.Bits.{length-bits, number-bits, number_append, bits-split, digit-bit}
@@ -20,24 +18,6 @@ use Rattle.reg_cid.specs.Content.{content}
 pub bits_none : (n : ℕ) → bits 0 n ≡ []
 unfolding bits
 bits_none n = refl
-
--- ---- joined bits: a word in front of others, with its last w bits taken off it as a value
-
-module _ (j w high low v r : ℕ) where
-  pub joined : (rest t : List Bool) → bits (j + w) r ≡ bits j high ++ bits w low → low ≡ v → bits j high ++ (bits w v ++ rest) ≡ t
-      → bits (j + w) r ++ rest ≡ t
-  joined rest t e h k =
-      ap (λ (l : List Bool). l ++ rest) (e ∙ ap (λ (n : ℕ). bits j high ++ bits w n) h) ∙ append_assoc (bits j high) (bits w v) rest ∙ k
-
-  -- the last of them, with nothing behind it
-  pub joined-last : (t : List Bool) → bits (j + w) r ≡ bits j high ++ bits w low → low ≡ v → bits j high ++ (bits w v ++ []) ≡ t
-      → bits (j + w) r ≡ t
-  joined-last t e h k = sym (append-nil (bits (j + w) r)) ∙ joined [] t e h k
-
--- nothing in front of the first
-pub joined-none : (n : ℕ) (rest t : List Bool) → rest ≡ t → bits 0 n ++ rest ≡ t
-unfolding bits
-joined-none n rest t e = e
 
 pub write_append : (l m : List Slot) (vs ws : List ℕ) (bs : List Bool) → length (read l bs) ≡ length vs
     → write (l ++ m) (vs ++ ws) ≡ write l vs ++ write m ws
@@ -116,10 +96,6 @@ module _ (l m : List Slot) (p q a b : ℕ) (first : width l + p ≡ 64) (rest : 
       (ap₂ (λ (x y : List Bool). number x ∷ read m y) (take_at halves (bits (width m) b) (p + q) length-halves) (drop_at halves (bits (width m) b) (p + q) length-halves)
       ∙ ap₂ (λ (x : ℕ) (y : List ℕ). x ∷ y) number-halves (read_one (width m) m b refl))
 
--- what is cut out of a word fits a byte
-pub byte-part : (w x r : ℕ) → w ≤ 8 → r ≡ x % 2 ^ w → Fits w8 r
-byte-part w x r h e = record { fits = rw e (lt_of_lt_of_le (mod-lt x (pow_pos w)) (pow_mono h)) }
-
 -- ---- values
 
 -- a bit that is cut out of a word, as a flag
@@ -128,3 +104,8 @@ flag-part n i r e = ap (λ (x : ℕ). digit (eqb x 1)) e ∙ digit-bit n i
 
 pub cons : (x y : ℕ) (xs ys : List ℕ) → x ≡ y → xs ≡ ys → x ∷ xs ≡ y ∷ ys
 cons x y xs ys e p = ap₂ (λ (a : ℕ) (l : List ℕ). a ∷ l) e p
+
+-- a flag as a number
+pub flag_digit : (b : Bool) → from_bool b ≡ digit b
+flag_digit true = refl
+flag_digit false = refl

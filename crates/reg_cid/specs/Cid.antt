@@ -1,11 +1,10 @@
 -- CID: MID 8, OID 16, PNM 40, PRV 8, PSN 32, reserved 4, MDT 12, CRC7, 1.
-use Rattle.std.specs.Prelude.{List, [], ◌∷◌, ℕ}
-use Rattle.codec.specs.Answer.{Outcome, done, refused}
+use Rattle.std.specs.Prelude.{List, [], ◌∷◌, ℕ, Result}
+use Rattle.codec.specs.declared.Refusal.{Refusal}
+use Rattle.codec.specs.Answer.{Outcome, outcome_of}
 use Rattle.codec.specs.Layout.{field, reserved}
 use Rattle.codec.specs.Format.{Format, crc7_from}
 use Rattle.reg_cid.specs.declared.cid.Cid.{Cid}
-use Rattle.reg_cid.specs.declared.cid.CidRead.{CidRead}
-use Rattle.reg_cid.specs.declared.cid.CidRead.TheVariants.{Fields, Refused}
 
 abbrev pub cid : Format
 cid = record {
@@ -17,6 +16,5 @@ cid = record {
 abbrev pub cid_values : Cid → List ℕ
 cid_values c = c.mid ∷ c.oid ∷ c.pnm ∷ c.prv ∷ c.psn ∷ c.mdt ∷ []
 
-abbrev pub cid_read : CidRead → Outcome (List ℕ)
-cid_read (Fields c) = done (cid_values c)
-cid_read (Refused k) = refused k
+abbrev pub cid_read : Result Cid Refusal → Outcome (List ℕ)
+cid_read = outcome_of cid_values

@@ -1,29 +1,30 @@
-// What the registers share: a flag or a byte as a word, and the sixteen bytes of CID and CSD, which are two words of
-// content and a byte of check and end bit.
-ghost use Rattle.std.specs.Prelude.{◌≡◌};
-ghost use Rattle.crc.specs.Bits.{digit};
-ghost use Rattle.codec.specs.Answer.{encoding};
+// What CID and CSD share: sixteen bytes, which are two words of content and a byte of check and end bit. A trait of both would be
+// no plainer: `encode`, `sixteen` and `decode` of each are a call or two of these.
+ghost use Rattle.std.specs.Prelude.{◌≡◌, ◌%◌, ◌^◌, take, drop};
+ghost use Rattle.crc.specs.Bits.{bits_of, number};
+ghost use Rattle.codec.specs.Answer.{encoding, number_of};
 ghost use Rattle.reg_cid.specs.Content.{sixteen, emitted, verdict};
 
-use codec::Encoded;
+use codec::Refusal;
 
 // 64 and 56 bits of content.
-#[derive(Clone, Copy)]
+#[derive(Clone, Copy, Debug, PartialEq, Eq)]
 pub struct Words {
     pub first: u64,
     pub rest: u64,
 }
 
-pub fn flag(b: bool) -> u64
-    ensures { result ≡ digit b }
-{
-    if b { 1 } else { 0 }
-}
-
-pub fn wide(n: u8) -> u64
-    ensures { result ≡ n }
-{
-    n as u64
+impl Words {
+    // Of a register's bytes; the check behind them is not looked at.
+    pub fn from_bytes(s: &[u8]) -> Words
+        ensures first { result.first ≡ number (bits_of (take 8 s.now)) % 2 ^ 64 }
+        ensures rest { result.rest ≡ number (bits_of (take 7 (drop 8 s.now))) % 2 ^ 64 }
+    {
+        Words {
+            first: codec::word(codec::front(s, 8)),
+            rest: codec::word(codec::front(codec::behind(s, 8), 7)),
+        }
+    }
 }
 
 // A register's sixteen bytes.
@@ -38,29 +39,29 @@ pub fn sixteen(w: Words) -> [u8; 16]
 }
 
 // Rows 4 and 8, or the bytes of a register.
-pub fn emit(fits: bool, w: Words, out: &mut [u8]) -> Encoded
+#[tactic(auto, unfolding(crate::specs::Content::emitted))]
+pub fn emit(fits: bool, w: Words, out: &mut [u8]) -> Result<usize, Refusal>
     ensures { encoding result out.new ≡ emitted fits w.first w.rest out.old }
 {
     if out.len() < 17 {
-        return Encoded::Refused(codec::BUFFER);
+        return Err(Refusal::Buffer);
     }
     if !fits {
-        return Encoded::Refused(codec::FIELD);
+        return Err(Refusal::Field);
     }
-    let s = sixteen(w);
-    codec::copy(&mut out[0..16], &s);
-    Encoded::Wrote(16)
+    out[..16].copy_from_slice(&sixteen(w));
+    Ok(16)
 }
 
-// Rows 1 and 7, or 0 where size, check and end bit are right.
-pub fn judge(s: &[u8]) -> u8
-    ensures { result ≡ verdict s.now }
+// Rows 1 and 7, where size, check or end bit are wrong.
+pub fn judge(s: &[u8]) -> Result<(), Refusal>
+    ensures { number_of result ≡ verdict s.now }
 {
     if s.len() != 16 {
-        return codec::SIZE;
+        return Err(Refusal::Size);
     }
     if s[15] != codec::seal(&s[0..15]) {
-        return codec::WRONG;
+        return Err(Refusal::Wrong);
     }
-    0
+    Ok(())
 }

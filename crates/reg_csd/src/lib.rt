@@ -9,10 +9,10 @@ ghost use Rattle.codec.specs.Format.{image, encode};
 ghost use Rattle.reg_cid.specs.Content.{content};
 ghost use Rattle.reg_csd.specs.Csd.{csd, csd_slots, csd_values};
 
-use codec::{Encoded, join};
-use reg_cid::content::{Words, flag, wide};
+use codec::{Refusal, join};
+use reg_cid::content::{self, Words};
 
-#[derive(Clone, Copy)]
+#[derive(Clone, Copy, Debug, Default, PartialEq, Eq)]
 pub struct Csd {
     pub csd_structure: u8,
     pub taac: u8,
@@ -45,114 +45,78 @@ pub struct Csd {
 }
 
 // CSD_STRUCTURE to C_SIZE fit.
+#[tactic(auto, using(crc::proofs::Bits::digit_lt), unfolding(codec::specs::Layout::fits))]
 fn fit_first(c: Csd) -> bool
     ensures { result ≡ fits (take 13 csd_slots) (take 11 (csd_values c)) }
 {
-    if c.csd_structure >= 4 {
-        return false;
-    }
-    if c.ccc >= 4096 {
-        return false;
-    }
-    if c.read_bl_len >= 16 {
-        return false;
-    }
-    if c.c_size >= 4096 {
-        return false;
-    }
-    true
+    c.csd_structure < 4 && c.ccc < 4096 && c.read_bl_len < 16 && c.c_size < 4096
 }
 
 // VDD_R_CURR_MIN to C_SIZE_MULT fit.
+#[tactic(auto, unfolding(codec::specs::Layout::fits))]
 fn fit_middle(c: Csd) -> bool
     ensures { result ≡ fits (take 5 (drop 13 csd_slots)) (take 5 (drop 11 (csd_values c))) }
 {
-    if c.vdd_r_curr_min >= 8 {
-        return false;
-    }
-    if c.vdd_r_curr_max >= 8 {
-        return false;
-    }
-    if c.vdd_w_curr_min >= 8 {
-        return false;
-    }
-    if c.vdd_w_curr_max >= 8 {
-        return false;
-    }
-    if c.c_size_mult >= 8 {
-        return false;
-    }
-    true
+    c.vdd_r_curr_min < 8
+        && c.vdd_r_curr_max < 8
+        && c.vdd_w_curr_min < 8
+        && c.vdd_w_curr_max < 8
+        && c.c_size_mult < 8
 }
 
 // ERASE_BLK_EN to FILE_FORMAT fit.
+#[tactic(auto, using(crc::proofs::Bits::digit_lt), unfolding(codec::specs::Layout::fits))]
 fn fit_last(c: Csd) -> bool
     ensures { result ≡ fits (drop 18 csd_slots) (drop 16 (csd_values c)) }
 {
-    if c.sector_size >= 128 {
-        return false;
-    }
-    if c.wp_grp_size >= 128 {
-        return false;
-    }
-    if c.r2w_factor >= 8 {
-        return false;
-    }
-    if c.write_bl_len >= 16 {
-        return false;
-    }
-    if c.file_format >= 4 {
-        return false;
-    }
-    true
+    c.sector_size < 128
+        && c.wp_grp_size < 128
+        && c.r2w_factor < 8
+        && c.write_bl_len < 16
+        && c.file_format < 4
 }
 
-// Every field fits its width.
+// Every field fits its width; in three parts, since the proof of all fourteen tests as one expression did not close.
+#[tactic(auto, unfolding(codec::specs::Layout::fits))]
 fn fit(c: Csd) -> bool
     ensures { result ≡ fits csd.slots (csd_values c) }
 {
-    if !fit_first(c) {
-        return false;
-    }
-    if !fit_middle(c) {
-        return false;
-    }
-    fit_last(c)
+    fit_first(c) && fit_middle(c) && fit_last(c)
 }
 
 // CSD_STRUCTURE to DSR_IMP, two reserved bits, and the high bits of C_SIZE.
 fn first(c: Csd) -> u64
     ensures { bits 64 result ≡ write (take 12 csd_slots) (take 10 (csd_values c)) ++ bits 10 (c.c_size / 2 ^ 2) }
 {
-    let a = join(0, 2, wide(c.csd_structure));
+    let a = join(0, 2, u64::from(c.csd_structure));
     let a = join(a, 6, 0);
-    let a = join(a, 8, wide(c.taac));
-    let a = join(a, 8, wide(c.nsac));
-    let a = join(a, 8, wide(c.tran_speed));
-    let a = join(a, 12, c.ccc as u64);
-    let a = join(a, 4, wide(c.read_bl_len));
-    let a = join(a, 1, flag(c.read_bl_partial));
-    let a = join(a, 1, flag(c.write_blk_misalign));
-    let a = join(a, 1, flag(c.read_blk_misalign));
-    let a = join(a, 1, flag(c.dsr_imp));
+    let a = join(a, 8, u64::from(c.taac));
+    let a = join(a, 8, u64::from(c.nsac));
+    let a = join(a, 8, u64::from(c.tran_speed));
+    let a = join(a, 12, u64::from(c.ccc));
+    let a = join(a, 4, u64::from(c.read_bl_len));
+    let a = join(a, 1, u64::from(c.read_bl_partial));
+    let a = join(a, 1, u64::from(c.write_blk_misalign));
+    let a = join(a, 1, u64::from(c.read_blk_misalign));
+    let a = join(a, 1, u64::from(c.dsr_imp));
     let a = join(a, 2, 0);
-    join(a, 10, (c.c_size >> 2) as u64)
+    join(a, 10, u64::from(c.c_size >> 2))
 }
 
 // The low bits of C_SIZE, and VDD_R_CURR_MIN to WP_GRP_ENABLE.
 fn middle(c: Csd) -> u64
     ensures { bits 33 result ≡ bits 2 c.c_size ++ write (take 9 (drop 13 csd_slots)) (take 9 (drop 11 (csd_values c))) }
 {
-    let b = join(0, 2, c.c_size as u64);
-    let b = join(b, 3, wide(c.vdd_r_curr_min));
-    let b = join(b, 3, wide(c.vdd_r_curr_max));
-    let b = join(b, 3, wide(c.vdd_w_curr_min));
-    let b = join(b, 3, wide(c.vdd_w_curr_max));
-    let b = join(b, 3, wide(c.c_size_mult));
-    let b = join(b, 1, flag(c.erase_blk_en));
-    let b = join(b, 7, wide(c.sector_size));
-    let b = join(b, 7, wide(c.wp_grp_size));
-    join(b, 1, flag(c.wp_grp_enable))
+    let b = join(0, 2, u64::from(c.c_size));
+    let b = join(b, 3, u64::from(c.vdd_r_curr_min));
+    let b = join(b, 3, u64::from(c.vdd_r_curr_max));
+    let b = join(b, 3, u64::from(c.vdd_w_curr_min));
+    let b = join(b, 3, u64::from(c.vdd_w_curr_max));
+    let b = join(b, 3, u64::from(c.c_size_mult));
+    let b = join(b, 1, u64::from(c.erase_blk_en));
+    let b = join(b, 7, u64::from(c.sector_size));
+    let b = join(b, 7, u64::from(c.wp_grp_size));
+    join(b, 1, u64::from(c.wp_grp_enable))
 }
 
 // Two reserved bits, and R2W_FACTOR to the last reserved bits.
@@ -160,15 +124,15 @@ fn last(c: Csd) -> u64
     ensures { bits 23 result ≡ write (drop 22 csd_slots) (drop 20 (csd_values c)) }
 {
     let b = join(0, 2, 0);
-    let b = join(b, 3, wide(c.r2w_factor));
-    let b = join(b, 4, wide(c.write_bl_len));
-    let b = join(b, 1, flag(c.write_bl_partial));
+    let b = join(b, 3, u64::from(c.r2w_factor));
+    let b = join(b, 4, u64::from(c.write_bl_len));
+    let b = join(b, 1, u64::from(c.write_bl_partial));
     let b = join(b, 5, 0);
-    let b = join(b, 1, flag(c.file_format_grp));
-    let b = join(b, 1, flag(c.copy));
-    let b = join(b, 1, flag(c.perm_write_protect));
-    let b = join(b, 1, flag(c.tmp_write_protect));
-    let b = join(b, 2, wide(c.file_format));
+    let b = join(b, 1, u64::from(c.file_format_grp));
+    let b = join(b, 1, u64::from(c.copy));
+    let b = join(b, 1, u64::from(c.perm_write_protect));
+    let b = join(b, 1, u64::from(c.tmp_write_protect));
+    let b = join(b, 2, u64::from(c.file_format));
     join(b, 2, 0)
 }
 
@@ -182,15 +146,15 @@ fn words(c: Csd) -> Words
     }
 }
 
-pub fn encode(c: Csd, out: &mut [u8]) -> Encoded
+pub fn encode(c: Csd, out: &mut [u8]) -> Result<usize, Refusal>
     ensures { encoding result out.new ≡ encode csd (csd_values c) out.old }
 {
-    reg_cid::content::emit(fit(c), words(c), out)
+    content::emit(fit(c), words(c), out)
 }
 
 // The register as an R2 carries it.
 pub fn sixteen(c: Csd) -> [u8; 16]
     ensures { result ≡ image csd (csd_values c) }
 {
-    reg_cid::content::sixteen(words(c))
+    content::sixteen(words(c))
 }

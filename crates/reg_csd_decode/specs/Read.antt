@@ -1,10 +1,9 @@
 -- What was decoded: the fields, or the number of the refusal.
-use Rattle.std.specs.Prelude.{List, ℕ}
-use Rattle.codec.specs.Answer.{Outcome, done, refused}
+use Rattle.std.specs.Prelude.{List, ℕ, Result}
+use Rattle.codec.specs.declared.Refusal.{Refusal}
+use Rattle.codec.specs.Answer.{Outcome, outcome_of}
+use Rattle.reg_csd.specs.declared.Csd.{Csd}
 use Rattle.reg_csd.specs.Csd.{csd_values}
-use Rattle.reg_csd_decode.specs.declared.CsdRead.{CsdRead}
-use Rattle.reg_csd_decode.specs.declared.CsdRead.TheVariants.{Fields, Refused}
 
-abbrev pub csd_read : CsdRead → Outcome (List ℕ)
-csd_read (Fields c) = done (csd_values c)
-csd_read (Refused k) = refused k
+abbrev pub csd_read : Result Csd Refusal → Outcome (List ℕ)
+csd_read = outcome_of csd_values

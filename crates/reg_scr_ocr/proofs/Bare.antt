@@ -1,24 +1,22 @@
 -- The bytes of SCR and OCR: one word, and no check.
-use mathlib.Core.Path.{◌≡◌, refl, sym, ap, ap₂, ◌∙◌}
+use mathlib.Core.Path.{◌≡◌, refl, sym, ap, ◌∙◌}
 use mathlib.Core.Bool.{Bool, true}
-use mathlib.Core.List.{List, ◌++◌}
+use mathlib.Core.List.{List}
 use Prim.Native.Nat.{ℕ, ◌*◌, ◌%◌, ◌^◌, ◌<◌, ◌≤◌}
 use native.Mathlib.Nat.{mod-eq_of_lt, lt_of_lt_of_le}
-use native.Mathlib.Omega.{arith}
 use borrow.Author.Tests.{ne_eqb}
-use lib.ListN.{length, take, drop}
+use lib.ListN.{length}
 use lib.Pow.{pow_mono}
-use lib.Seq.{length-take-le}
-use Rattle.crc.specs.Bits.{bits, number, bits_of, bytes}
+use Rattle.crc.specs.Bits.{bits, number, bits_of}
 use Rattle.crc.proofs.Bits.{length-bits_of, number_lt}
-use Rattle.codec.specs.Answer.{done, refused, SIZE, Encoding}
+use Rattle.codec.specs.Answer.{done, refused, SIZE}
 use Rattle.codec.specs.Layout.{Slot, width, write, read, fits, judged}
-use Rattle.codec.specs.Format.{Format, bare, image, encode, decode}
+use Rattle.codec.specs.Format.{Format, bare, encode, decode}
+use Rattle.reg_scr_ocr.specs.Bare.{emitted}
 use Rattle.codec.proofs.Bits.{bits_of_lem}
 use Rattle.codec.proofs.Words.{within, right-bare, image-bare}
-use Rattle.codec.proofs.RoundTrip.{length-image, decode-done}
-use Rattle.reg_cid.proofs.Fits.{encode-emit}
-use Rattle.reg_cid.proofs.Words.{filled, read_one}
+use Rattle.codec.proofs.RoundTrip.{decode-done}
+use Rattle.reg_cid.proofs.Words.{read_one}
 
 -- a register of n bytes with no check
 abbrev pub unchecked : ℕ → List Slot → Format
@@ -45,12 +43,7 @@ module _ (n : ℕ) (slots : List Slot) (wide : width slots ≡ 8 * n) where
             ∙ read_one (8 * n) slots w wide;
       }))
 
-  pub word-emitted : (vs out p : List ℕ) (w : ℕ) → n ≤ 17 → 17 ≤ length out → fits slots vs ≡ true
-      → p ≡ bytes (length (take n out)) (bits (8 * length (take n out)) w) → bits (8 * n) w ≡ write slots vs
-      → ◌≡◌ {A = Encoding} (record { answer = done n; buffer = p ++ drop n out }) (encode (unchecked n slots) vs out)
-  word-emitted vs out p w small room fit hp hw =
-      let f = unchecked n slots in
-      let e : p ≡ image f vs =
-      filled n w p (take n out) (length-take-le n out (omega arith)) hp ∙ ap (bytes n) hw ∙ sym (image-bare f vs refl) in
-      ap₂ (λ (k : ℕ) (l : List ℕ). record { answer = done k; buffer = l ++ drop k out }) (sym (length-image f vs)) e
-      ∙ encode-emit f vs out room fit
+  pub emitted_encode : (fit : Bool) (w : ℕ) (out vs : List ℕ) → fit ≡ fits slots vs → bits (8 * n) w ≡ write slots vs
+      → emitted fit w n out ≡ encode (unchecked n slots) vs out
+  unfolding emitted encode
+  emitted_encode fit w out vs h e = rw (h, e, image-bare (unchecked n slots) vs refl)

@@ -1,7 +1,6 @@
 -- The size pair: block count n = (C_SIZE+1) × 2^(C_SIZE_MULT+2), C_SIZE ≤ 4095, C_SIZE_MULT ≤ 7, the smallest multiplier.
-use Rattle.std.specs.Prelude.{◌≡◌, Bool, cond, ◌&&◌, ℕ, zero, suc, ◌+◌, ◌-◌, ◌*◌, ◌/◌, ◌%◌, ◌^◌, ◌≤◌, eqb, leb, ltb}
+use Rattle.std.specs.Prelude.{◌≡◌, Bool, cond, ◌&&◌, ℕ, zero, suc, ◌+◌, ◌-◌, ◌*◌, ◌/◌, ◌%◌, ◌^◌, ◌≤◌, eqb, leb, ltb, Option, Some, None}
 use Rattle.reg_size.specs.declared.SizePair.{SizePair}
-use Rattle.reg_size.specs.declared.SizePair.TheVariants.{Pair, NoPair}
 
 -- the block count of a pair
 abbrev pub blocks : ℕ → ℕ → ℕ
@@ -23,9 +22,11 @@ unfoldable pub divides : ℕ → ℕ → Bool
 divides n mult = eqb (n % 2 ^ (mult + 2)) 0 && (ltb 0 n && leb (n / 2 ^ (mult + 2)) 4096)
 
 -- the first of k multipliers from `mult` on
-unfoldable pub pair_from : ℕ → ℕ → ℕ → SizePair
-pair_from n mult zero = NoPair
-pair_from n mult (suc k) = let r = pair_from n (mult + 1) k in cond (divides n mult) (Pair (n / 2 ^ (mult + 2) - 1) mult) r
+unfoldable pub pair_from : ℕ → ℕ → ℕ → Option SizePair
+pair_from n mult zero = None
+pair_from n mult (suc k) =
+    let r = pair_from n (mult + 1) k in
+    cond (divides n mult) (Some (record { c_size = n / 2 ^ (mult + 2) - 1; c_size_mult = mult })) r
 
-unfoldable pub size_pair : ℕ → SizePair
+unfoldable pub size_pair : ℕ → Option SizePair
 size_pair n = pair_from n 0 8

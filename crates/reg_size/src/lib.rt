@@ -4,27 +4,24 @@
 ghost use Rattle.std.specs.Prelude.{◌≡◌};
 ghost use Rattle.reg_size.specs.Size.{size_pair};
 
-#[derive(Clone, Copy)]
-pub enum SizePair {
-    Pair { c_size: u16, c_size_mult: u8 },
-    NoPair,
+#[derive(Clone, Copy, Debug, PartialEq, Eq)]
+pub struct SizePair {
+    pub c_size: u16,
+    pub c_size_mult: u8,
 }
 
 // The pair that gives so many blocks, or none.
-pub fn size_pair(blocks: u32) -> SizePair
+pub fn size_pair(blocks: u32) -> Option<SizePair>
     ensures { result ≡ size_pair blocks }
 {
-    let mut mult: u8 = 0;
-    let mut unit: u32 = 4;
-    while mult < 8 {
+    for c_size_mult in 0..8u8 {
+        let unit = 1u32 << (c_size_mult + 2);
         if blocks % unit == 0 && blocks > 0 && blocks / unit <= 4096 {
-            return SizePair::Pair {
+            return Some(SizePair {
                 c_size: (blocks / unit - 1) as u16,
-                c_size_mult: mult,
-            };
+                c_size_mult,
+            });
         }
-        unit = unit * 2;
-        mult += 1;
     }
-    SizePair::NoPair
+    None
 }

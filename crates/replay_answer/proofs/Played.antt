@@ -2,6 +2,7 @@
 use mathlib.Core.Path.{◌≡◌, ap, ◌∙◌}
 use mathlib.Core.List.{List, []}
 use Prim.Native.Nat.{ℕ}
+use Rattle.codec.specs.declared.Refusal.TheVariants.{Size}
 use Rattle.card.specs.declared.answer.Answer.TheVariants.{Refused}
 use Rattle.card.specs.declared.Card.{Card}
 use Rattle.card.specs.Step.{world}
@@ -18,7 +19,7 @@ played_by kind s x memory out text a p q = p ∙ ap (λ (y : Seen). on_text (pla
 
 -- a line that cannot be read
 pub refused_by : (card : Card) (memory text : List ℕ) (s : Stepped) (a : Shown)
-    → a ≡ on_text (played Response (returned s memory [])) text → s ≡ record { answer = Refused 1; card = card }
+    → a ≡ on_text (played Response (returned s memory [])) text → s ≡ record { answer = Refused Size; card = card }
     → a ≡ on_text (record { world = world card memory; text = refusal 1 }) text
 unfolding written
 refused_by card memory text s a p q = p ∙ ap (λ (y : Stepped). on_text (played Response (returned y memory [])) text) q

@@ -19,21 +19,12 @@ pub fn blank() -> [u8; 32768]
 pub fn bench(memory: &[u8; 32768]) -> Card
     ensures { result ≡ start bench no_password }
 {
-    let cid = Cid {
-        mid: 0,
-        oid: 0,
-        pnm: 0,
-        prv: 0,
-        psn: 0,
-        mdt: 0,
-    };
     let settings = Settings {
         blocks: 64,
         polls: 0,
-        cid: cid,
+        cid: Cid::default(),
         permanent: false,
         temporary: false,
     };
-    let s = card_power::power_up(card_power::unpowered(), settings, no_password(), memory);
-    s.card
+    card_power::power_up(card_power::unpowered(), settings, no_password(), memory).card
 }

@@ -1,7 +1,7 @@
 // A call's record, and its answer as a line of output. The call of a frame is in replay_line, since it rests on all commands.
 #![tactic(auto)]
 
-ghost use Rattle.std.specs.Prelude.{◌≡◌, List, ℕ, replicate};
+ghost use Rattle.std.specs.Prelude.{◌≡◌, List, ℕ};
 ghost use Rattle.card.specs.Step.{world, block_in, take_block, busy_over};
 ghost use Rattle.card_call.specs.Seen.{returned, stepped};
 ghost use Rattle.replay_write.specs.declared.Kind.TheVariants.{Response, Block};
@@ -12,10 +12,11 @@ pub mod bench;
 
 use card::Card;
 use card_call::{Stepped, refused};
-use codec::Encoded;
+use codec::Refusal;
 use replay_write::Kind;
 
-// A session with the card: how much of a line has arrived, and how much of the text is answers.
+// A session with the card: how much of a line has arrived, and how much of the text is answers. Line and text are lent beside it, as the
+// claims about sessions have them: fixed memory, no heap.
 #[derive(Clone, Copy)]
 pub struct Session {
     pub card: Card,
@@ -27,7 +28,7 @@ pub struct Session {
 pub struct Replayed {
     pub card: Card,
     // how many bytes of the text were written
-    pub wrote: Encoded,
+    pub wrote: Result<usize, Refusal>,
 }
 
 // What a call returned, with its answer on a line.
@@ -35,11 +36,9 @@ pub fn answer_line(kind: Kind, s: Stepped, out: &[u8], text: &mut [u8]) -> Repla
     ensures { (memory : List ℕ)
         → shown result memory text.new ≡ on_text (played kind (returned s memory out.now)) text.old }
 {
-    let answer = s.answer;
-    let card = s.card;
     Replayed {
-        card: card,
-        wrote: replay_write::write(kind, answer, out, text),
+        card: s.card,
+        wrote: replay_write::write(kind, s.answer, out, text),
     }
 }
 
@@ -48,7 +47,7 @@ pub fn unreadable(card: Card, text: &mut [u8]) -> Replayed
     ensures { (memory : List ℕ)
         → shown result memory text.new ≡ on_text (record { world = world card memory; text = refusal 1 }) text.old }
 {
-    answer_line(Kind::Response, refused(card, 1), &[], text)
+    answer_line(Kind::Response, refused(card, Refusal::Size), &[], text)
 }
 
 pub fn block(card: Card, memory: &mut [u8], bytes: &[u8], text: &mut [u8]) -> Replayed
@@ -59,14 +58,13 @@ pub fn block(card: Card, memory: &mut [u8], bytes: &[u8], text: &mut [u8]) -> Re
     answer_line(Kind::Response, s, &[], text)
 }
 
-// The output buffer is zero before the call.
-pub fn take(card: Card, memory: &[u8], text: &mut [u8]) -> Replayed
+// Into an output buffer of any size.
+pub fn take(card: Card, memory: &[u8], out: &mut [u8], text: &mut [u8]) -> Replayed
     ensures { shown result memory.now text.new
-        ≡ on_text (played Block (stepped card memory.now (take_block (replicate 514 0)))) text.old }
+        ≡ on_text (played Block (stepped card memory.now (take_block out.old))) text.old }
 {
-    let mut out: [u8; 514] = [0; 514];
-    let s = card_take::take(card, memory, &mut out);
-    answer_line(Kind::Block, s, &out, text)
+    let s = card_take::take(card, memory, out);
+    answer_line(Kind::Block, s, out, text)
 }
 
 pub fn over(card: Card, memory: &[u8], text: &mut [u8]) -> Replayed

@@ -1,15 +1,16 @@
 -- The call that a line asks for.
-use mathlib.Core.Path.{◌≡◌, sym, ap, ◌∙◌}
+use mathlib.Core.Path.{◌≡◌, refl, sym, ap, ◌∙◌}
 use mathlib.Core.Bool.{false}
 use mathlib.Core.List.{List}
 use Prim.Native.Nat.{ℕ, ◌<◌, ◌≤◌}
 use borrow.Author.Tests.{le-ltb, lt-ltb}
-use lib.ListN.{length, take, replicate}
+use lib.ListN.{length, replicate}
+use Rattle.std.specs.Prelude.{Option, Some, None}
 use Rattle.codec.specs.Answer.{BUFFER, refuse}
 use Rattle.card.specs.Step.{World, step, command_frame, block_in, take_block, busy_over}
 use Rattle.card_call.specs.Seen.{seen}
 use Rattle.replay_read.specs.declared.Input.{Input}
-use Rattle.replay_read.specs.declared.Word.TheVariants.{Cmd, Blk, Take, Over, Unreadable}
+use Rattle.replay_read.specs.declared.Input.TheVariants.{Cmd, Blk, Take, Over}
 use Rattle.replay_read.specs.Read.{Request, read_line, held, request_of}
 use Rattle.replay_read.proofs.Laws.{read_laws}
 use Rattle.replay_write.specs.declared.Kind.TheVariants.{Response, Block}
@@ -22,7 +23,7 @@ module _ (w : World) (line text : List ℕ) where
   unfolding play_line
   no_room h = rw (lt-ltb (length text) 1035 h)
 
-  module _ (i : Input) (room : 1035 ≤ length text) (e : i ≡ held (read_line line)) where
+  module _ (i : Option Input) (room : 1035 ≤ length text) (e : i ≡ held (read_line line)) where
     by-line : play_line w line text ≡ on_text (play w (request_of i)) text
     unfolding play_line
     by-line =
@@ -32,24 +33,23 @@ module _ (w : World) (line text : List ℕ) where
     pub by_word : (p : Played) (a : Shown) → play w (request_of i) ≡ p → a ≡ on_text p text → a ≡ play_line w line text
     by_word p a h k = k ∙ sym (by-line ∙ ap (λ (x : Played). on_text x text) h)
 
-module _ (w : World) (i : Input) where
-  pub cmd-line : (frame : List ℕ) → i.word ≡ Cmd → frame ≡ take 6 i.bytes
-      → play w (request_of i) ≡ played Response (seen (step w (command_frame frame false (replicate 17 0))))
+module _ (w : World) where
+  pub cmd-line : (frame : List ℕ) → play w (request_of (Some (Cmd frame))) ≡ played Response (seen (step w (command_frame frame false (replicate 17 0))))
   unfolding request_of play
-  cmd-line frame h e = rw (h, e)
+  cmd-line frame = refl
 
-  pub blk-line : i.word ≡ Blk → play w (request_of i) ≡ played Response (seen (step w (block_in i.bytes)))
+  pub blk-line : (s : List ℕ) → play w (request_of (Some (Blk s))) ≡ played Response (seen (step w (block_in s)))
   unfolding request_of play
-  blk-line h = rw h
+  blk-line s = refl
 
-  pub take-line : i.word ≡ Take → play w (request_of i) ≡ played Block (seen (step w (take_block (replicate 514 0))))
+  pub take-line : play w (request_of (Some Take)) ≡ played Block (seen (step w (take_block (replicate 514 0))))
   unfolding request_of play
-  take-line h = rw h
+  take-line = refl
 
-  pub over-line : i.word ≡ Over → play w (request_of i) ≡ played Response (seen (step w busy_over))
+  pub over-line : play w (request_of (Some Over)) ≡ played Response (seen (step w busy_over))
   unfolding request_of play
-  over-line h = rw h
+  over-line = refl
 
-  pub bad-line : i.word ≡ Unreadable → play w (request_of i) ≡ record { world = w; text = refusal 1 }
+  pub bad-line : play w (request_of None) ≡ record { world = w; text = refusal 1 }
   unfolding request_of play
-  bad-line h = rw h
+  bad-line = refl

@@ -9,10 +9,10 @@ ghost use Rattle.replay_answer.specs.Played.{played, shown, on_text};
 ghost use Rattle.replay_line.specs.Replay.{play_line};
 
 use card::Card;
-use codec::Encoded;
+use codec::Refusal;
 use replay_answer::{Replayed, answer_line, block, over, take, unreadable};
-use replay_read::{Word, front};
-use replay_write::Kind;
+use replay_read::{Input, read};
+use replay_write::{Kind, ROOM};
 
 // A frame, with chip select low or high. Its output buffer is zero before the call.
 pub fn command(card: Card, memory: &mut [u8], frame: &[u8], low: bool, text: &mut [u8]) -> Replayed
@@ -29,20 +29,17 @@ pub fn play(card: Card, memory: &mut [u8], line: &[u8], text: &mut [u8]) -> Repl
     ensures { shown result memory.new text.new
         ≡ play_line (record { card = card; memory = memory.old }) line.now text.old }
 {
-    if text.len() < 1035 {
+    if text.len() < ROOM {
         return Replayed {
-            card: card,
-            wrote: Encoded::Refused(4),
+            card,
+            wrote: Err(Refusal::Buffer),
         };
     }
-    let input = replay_read::read(line);
-    let bytes = input.bytes;
-    let word = input.word;
-    match word {
-        Word::Cmd => command(card, memory, front(&bytes, 6), false, text),
-        Word::Blk => block(card, memory, &bytes, text),
-        Word::Take => take(card, memory, text),
-        Word::Over => over(card, memory, text),
-        Word::Unreadable => unreadable(card, text),
+    match read(line) {
+        Some(Input::Cmd(frame)) => command(card, memory, &frame, false, text),
+        Some(Input::Blk(packet)) => block(card, memory, &packet, text),
+        Some(Input::Take) => take(card, memory, &mut [0; 514], text),
+        Some(Input::Over) => over(card, memory, text),
+        None => unreadable(card, text),
     }
 }

@@ -1,11 +1,11 @@
 -- Hex digits, a byte at a time: what a turn of the loop that reads them does.
 use mathlib.Core.Path.{◌≡◌, refl, sym, ap, ap₂, ◌∙◌}
-use mathlib.Core.Bool.{Bool, true, false, cond, ◌&&◌, and-false}
+use mathlib.Core.Bool.{true, false, ◌&&◌, and-false, and-eq-true_iff}
 use mathlib.Core.List.{List, [], ◌∷◌, ◌++◌, append_assoc, append-nil}
 use Prim.Native.Nat.{ℕ, zero, suc, ◌+◌, ◌*◌, ◌/◌, ◌%◌, ◌^◌, ◌<◌, ◌≤◌}
 use native.Mathlib.Numerals.{add-one}
 use native.Mathlib.Omega.{arith}
-use borrow.Author.Tests.{lt-ltb, le-ltb, eq-eqb, ne_eqb}
+use borrow.Author.Tests.{eq-eqb, ne_eqb, ltb-true}
 use lib.Bits.{bit_or, or_shifted}
 use lib.Dec.{ltb}
 use lib.ListN.{length, get_or, take, drop, set, drop_of_length-le}
@@ -48,22 +48,6 @@ module _ (digits : List ℕ) (i high low : ℕ) (room : 2 * i + 1 < length digit
       ∙ drop-cons digits (2 * i + 1) 0 room
       ∙ ap (λ (n : ℕ). get_or digits (2 * i + 1) 0 ∷ drop n digits) (sym e))
 
-  all-pair : all_hex (drop (2 * i) digits) ≡ (ltb high 16 && (ltb low 16 && all_hex rest))
-  unfolding all_hex
-  all-pair =
-      ap all_hex pair ∙ ap₂ (λ (h l : ℕ). ltb h 16 && (ltb l 16 && all_hex rest)) (sym eh) (sym el)
-
-  module _ (inv : all_hex (drop (2 * i) digits) ≡ all_hex digits) where
-    pub high-wrong : 15 < high → false ≡ all_hex digits
-    high-wrong h = sym (sym inv ∙ all-pair ∙ rw (le-ltb high 16 (omega arith)))
-
-    pub low-wrong : 15 < low → false ≡ all_hex digits
-    low-wrong h = sym (sym inv ∙ all-pair ∙ rw (le-ltb low 16 (omega arith), and-false))
-
-    pub all_more : high ≤ 15 → low ≤ 15 → all_hex (drop (2 * (i + 1)) digits) ≡ all_hex digits
-    unfolding rest
-    all_more h l = sym (sym inv ∙ all-pair ∙ rw (lt-ltb high 16 (omega arith), lt-ltb low 16 (omega arith)))
-
   pub unhex-more : (out : List ℕ) → i < length out → high ≤ 15 → low ≤ 15 → unhex digits ≡ take i out ++ unhex (drop (2 * i) digits)
       → unhex digits ≡ take (i + 1) (set out i (bit_or (high * 2 ^ 4 % 2 ^ 8) low)) ++ unhex (drop (2 * (i + 1)) digits)
   unfolding rest unhex
@@ -75,6 +59,13 @@ module _ (digits : List ℕ) (i high low : ℕ) (room : 2 * i + 1 < length digit
       ∙ ap (λ (n : ℕ). take i out ++ (n ∷ unhex rest)) (sym (byte-joined high low (omega arith) (omega arith)))
       ∙ sym (append_assoc (take i out) (byte ∷ []) (unhex rest))
       ∙ ap (λ (s : List ℕ). s ++ unhex rest) (sym (ap (λ (n : ℕ). take n (set out i byte)) (add-one i) ∙ take-suc-set out i byte ho))
+
+-- each of them is a digit
+pub digit_at : (s : List ℕ) (i : ℕ) → all_hex s ≡ true → i < length s → hex_value (get_or s i 0) < 16
+unfolding all_hex
+digit_at [] i h l = absurd (omega arith)
+digit_at (c ∷ s) zero h l = ltb-true _ _ ((and-eq-true_iff _ _).0 h).0
+digit_at (c ∷ s) (suc i) h l = digit_at s i ((and-eq-true_iff _ _).0 h).1 (omega arith)
 
 pub all_end : (digits : List ℕ) (n : ℕ) → length digits ≤ n → all_hex (drop n digits) ≡ all_hex digits → true ≡ all_hex digits
 unfolding all_hex
@@ -88,16 +79,16 @@ unhex_all digits i h out k inv =
 
 -- ---- digit by digit
 
-module _ (digits : List ℕ) (i v : ℕ) (h : i < length digits) (e : v ≡ hex_value (get_or digits i 0)) (inv : all_hex (drop i digits) ≡ all_hex digits) where
-  one : all_hex digits ≡ (ltb v 16 && all_hex (drop (i + 1) digits))
+module _ (digits : List ℕ) (i : ℕ) (h : i < length digits) (inv : all_hex (drop i digits) ≡ all_hex digits) where
+  one : all_hex digits ≡ (ltb (hex_value (get_or digits i 0)) 16 && all_hex (drop (i + 1) digits))
   unfolding all_hex
-  one = sym inv ∙ rw (e, add-one i, drop-cons digits i 0 h)
+  one = sym inv ∙ rw (add-one i, drop-cons digits i 0 h)
 
-  pub digit-wrong : 15 < v → false ≡ all_hex digits
-  digit-wrong w = sym (one ∙ rw (le-ltb v 16 (omega arith)))
+  pub digit-wrong : false ≡ ltb (hex_value (get_or digits i 0)) 16 → false ≡ all_hex digits
+  digit-wrong w = sym (one ∙ rw (sym w))
 
-  pub digit-more : v ≤ 15 → all_hex (drop (i + 1) digits) ≡ all_hex digits
-  digit-more w = sym (one ∙ rw (lt-ltb v 16 (omega arith)))
+  pub digit-more : true ≡ ltb (hex_value (get_or digits i 0)) 16 → all_hex (drop (i + 1) digits) ≡ all_hex digits
+  digit-more w = sym (one ∙ rw (sym w))
 
 -- ---- digits of just so many bytes
 
@@ -117,8 +108,5 @@ module _ (digits out : List ℕ) where
   pub fills-wrong : false ≡ all_hex digits → false ≡ fills digits out
   fills-wrong a = sym (rw (sym a, and-false))
 
-  pub fills-right : (after : List ℕ) (r : Bool) → length digits ≡ 2 * length out → true ≡ all_hex digits → r ≡ all_hex digits
-      → (r ≡ true → after ≡ unhex digits) → (r ≡ fills digits out) × (after ≡ cond r (unhex digits) out)
-  fills-right after r h a e read =
-      let yes : r ≡ true = e ∙ sym a in
-      (yes ∙ sym (rw (eq-eqb (length digits) (2 * length out) h, sym a)), read yes ∙ sym (rw yes refl))
+  pub fills-right : length digits ≡ 2 * length out → true ≡ all_hex digits → true ≡ fills digits out
+  fills-right h a = sym (rw (eq-eqb (length digits) (2 * length out) h, sym a))

@@ -1,10 +1,9 @@
 -- A line of input (01, "Bench readings"), without its newline: a word, and for two of them a tab and hex digits.
-use Rattle.std.specs.Prelude.{cond, ◌&&◌, List, [], ◌∷◌, ◌++◌, ℕ, ◌-◌, eqb, length, take, drop, replicate}
+use Rattle.std.specs.Prelude.{cond, ◌&&◌, List, [], ◌∷◌, ℕ, eqb, length, take, drop, Option, Some, None}
 use Rattle.card.specs.Soundness.{equal}
 use Rattle.replay_read.specs.Hex.{all_hex, unhex}
-use Rattle.replay_read.specs.declared.Word.{Word}
-use Rattle.replay_read.specs.declared.Word.TheVariants.{Cmd, Blk, Take, Over, Unreadable}
 use Rattle.replay_read.specs.declared.Input.{Input}
+use Rattle.replay_read.specs.declared.Input.TheVariants.{Cmd, Blk, Take, Over}
 
 -- what a line asks for
 pub data Request : Type 0 where
@@ -43,29 +42,23 @@ read_line s =
 abbrev pub LONGEST : ℕ
 LONGEST = 1032
 
--- ---- a request as the code holds it: the word, and 514 bytes, the field's in front of zeros
+-- ---- a request as the code holds it
 
-abbrev pub input : Word → List ℕ → Input
-input word s = record { word = word; bytes = s ++ replicate (514 - length s) 0 }
-
-unfoldable pub held : Request → Input
-held (cmd s) = input Cmd s
-held (blk s) = input Blk s
-held bare_take = input Take []
-held bare_over = input Over []
-held unreadable = input Unreadable []
+unfoldable pub held : Request → Option Input
+held (cmd s) = Some (Cmd s)
+held (blk s) = Some (Blk s)
+held bare_take = Some Take
+held bare_over = Some Over
+held unreadable = None
 
 -- a field of so many digits, the same way
-unfoldable pub held_field : Word → ℕ → List ℕ → Input
-held_field word n s = cond (eqb (length s) n && all_hex s) (input word (unhex s)) (input Unreadable [])
+abbrev pub field_read : ℕ → List ℕ → Option (List ℕ)
+field_read n s = cond (eqb (length s) n && all_hex s) (Some (unhex s)) None
 
 -- the request that the code holds
-unfoldable pub request_of : Input → Request
-request_of i =
-    elim i.word [
-      | Cmd ↦ cmd (take 6 i.bytes)
-      | Blk ↦ blk i.bytes
-      | Take ↦ bare_take
-      | Over ↦ bare_over
-      | Unreadable ↦ unreadable
-    ]
+unfoldable pub request_of : Option Input → Request
+request_of (Some (Cmd s)) = cmd s
+request_of (Some (Blk s)) = blk s
+request_of (Some Take) = bare_take
+request_of (Some Over) = bare_over
+request_of None = unreadable

@@ -1,74 +1,51 @@
 // Capital hex digits, two a byte.
-ghost use Rattle.std.specs.Prelude.{◌≡◌, true, cond, ◌*◌, ◌≤◌, length};
+ghost use Rattle.std.specs.Prelude.{◌≡◌, true, cond, ◌*◌, ◌<◌, ltb, length};
 ghost use Rattle.replay_read.specs.Hex.{hex_value, all_hex, unhex, fills};
 
-// The value of a digit; 16 where it is none.
-fn value(c: u8) -> u8
-    ensures { (result ≡ hex_value c) × (result ≤ 16) }
+fn is_digit(c: u8) -> bool
+    ensures { result ≡ ltb (hex_value c) 16 }
 {
-    if c < b'0' {
-        return 16;
-    }
-    if c <= b'9' {
-        return c - b'0';
-    }
-    if c < b'A' {
-        return 16;
-    }
-    if c <= b'F' {
-        return c - b'A' + 10;
-    }
-    16
+    matches!(c, b'0'..=b'9' | b'A'..=b'F')
 }
 
-// Whether all are digits; where they are, `out` has their bytes.
-pub(crate) fn unhex_into(digits: &[u8], out: &mut [u8]) -> bool
-    requires { length digits.now ≡ 2 * length out.old }
-    ensures { (result ≡ all_hex digits.now) × (result ≡ true → out.new ≡ unhex digits.now) }
+fn value(c: u8) -> u8
+    requires { hex_value c < 16 }
+    ensures { result ≡ hex_value c }
 {
-    let mut i: usize = 0;
-    while i < out.len() {
-        let at = 2 * i;
-        let high = value(digits[at]);
-        let low = value(digits[at + 1]);
-        if high > 15 {
-            return false;
-        }
-        if low > 15 {
-            return false;
-        }
-        out[i] = (high << 4) | low;
-        i += 1;
-    }
-    true
+    if c <= b'9' { c - b'0' } else { c - b'A' + 10 }
 }
 
 fn all_hex(digits: &[u8]) -> bool
     ensures { result ≡ all_hex digits.now }
 {
-    let mut i: usize = 0;
-    while i < digits.len() {
-        if value(digits[i]) > 15 {
+    for c in digits {
+        if !is_digit(*c) {
             return false;
         }
-        i += 1;
     }
     true
 }
 
-// Whether the digits are those of just so many bytes; where they are not, `out` stays as it was.
+// The bytes of digits.
+fn unhex_into(digits: &[u8], out: &mut [u8])
+    requires sizes { length digits.now ≡ 2 * length out.old }
+    requires right { all_hex digits.now ≡ true }
+    ensures { out.new ≡ unhex digits.now }
+{
+    for i in 0..out.len() {
+        out[i] = (value(digits[2 * i]) << 4) | value(digits[2 * i + 1]);
+    }
+}
+
+// Whether the digits are those of just so many bytes; where they are not, `out` stays as it was. A Result of nothing would say no more.
 pub fn unhex(digits: &[u8], out: &mut [u8]) -> bool
     ensures { (result ≡ fills digits.now out.old)
         × (out.new ≡ cond result (unhex digits.now) out.old) }
 {
-    if digits.len() / 2 != out.len() {
+    // no product of lengths is made before it is known to fit
+    if digits.len() / 2 != out.len() || digits.len() % 2 != 0 || !all_hex(digits) {
         return false;
     }
-    if digits.len() % 2 != 0 {
-        return false;
-    }
-    if all_hex(digits) {
-        return unhex_into(digits, out);
-    }
-    false
+    unhex_into(digits, out);
+    true
 }

@@ -1,71 +1,54 @@
 // The replay program's lines of input: how they are collected, and what is read.
 #![tactic(auto)]
 
-ghost use Rattle.std.specs.Prelude.{◌≡◌, ◌<◌, ◌⊎◌, [], ◌∷◌, take, drop, length, IfOk, OnErr};
+ghost use Rattle.std.specs.Prelude.{◌≡◌, ◌<◌, ◌⊎◌, ◌*◌, [], ◌∷◌, take, length, IfOk, OnErr};
 ghost use Rattle.std.specs.Io.{ReadsAtMost};
 ghost use Rattle.std.specs.Io.KnownBytes.{Keeps, Consumes, IsAtEnd};
-ghost use Rattle.replay_read.specs.Read.{read_line, held};
+ghost use Rattle.replay_read.specs.Read.{read_line, held, field_read};
 ghost use Rattle.replay_read.specs.Keep.{keep_byte, collected};
 
-pub mod fields;
 pub mod hex;
 
+use hex::unhex;
 use std::io::Read;
 
-// The first word of a line.
+// What a line asks for: a frame, a block, to take one, or that busy is over.
 #[derive(Clone, Copy)]
-pub enum Word {
-    Cmd,
-    Blk,
+pub enum Input {
+    Cmd([u8; 6]),
+    Blk([u8; 514]),
     Take,
     Over,
-    Unreadable,
 }
 
-// A line as it was read: the word, and the bytes of its field in front of zeros.
-#[derive(Clone, Copy)]
-pub struct Input {
-    pub word: Word,
-    pub bytes: [u8; 514],
+// A field of so many bytes.
+fn field<const N: usize>(digits: &[u8]) -> Option<[u8; N]>
+    ensures { result ≡ field_read (2 * N) digits.now }
+{
+    let mut bytes = [0u8; N];
+    if !unhex(digits, &mut bytes) {
+        return None;
+    }
+    Some(bytes)
 }
 
-// A line without its newline.
-pub fn read(line: &[u8]) -> Input
+// A line without its newline; none where it cannot be read.
+pub fn read(line: &[u8]) -> Option<Input>
     ensures { result ≡ held (read_line line.now) }
 {
-    if fields::begins(line, b"cmd\t") {
-        return fields::field(Word::Cmd, 6, &line[4..]);
+    if let Some(digits) = line.strip_prefix(b"cmd\t") {
+        return Some(Input::Cmd(field(digits)?));
     }
-    if fields::begins(line, b"blk\t") {
-        return fields::field(Word::Blk, 514, &line[4..]);
+    if let Some(digits) = line.strip_prefix(b"blk\t") {
+        return Some(Input::Blk(field(digits)?));
     }
-    if fields::equals(line, b"take") {
-        return fields::bare(Word::Take);
+    if line == b"take".as_slice() {
+        return Some(Input::Take);
     }
-    if fields::equals(line, b"over") {
-        return fields::bare(Word::Over);
+    if line == b"over".as_slice() {
+        return Some(Input::Over);
     }
-    fields::bare(Word::Unreadable)
-}
-
-// The first `n` bytes, or all where there are fewer.
-pub fn front(s: &[u8], n: usize) -> &[u8]
-    ensures { result.now ≡ take n s.now }
-{
-    if n < s.len() {
-        return &s[0..n];
-    }
-    s
-}
-
-// What is behind the first `n` bytes.
-pub fn behind(s: &[u8], n: usize) -> &[u8]
-    ensures { result.now ≡ drop n s.now }
-{
-    if n < s.len() {
-        return &s[n..];
-    }
-    &s[0..0]
+    None
 }
 
 // One byte more of a line that is being collected; a full buffer stays as it is.
@@ -92,12 +75,9 @@ pub fn fill<R: Read>(input: &mut R, chunk: &mut [u8], count: usize) -> std::io::
     if n > 0 {
         return Ok(n);
     }
-    if count == 0 {
+    if count == 0 || chunk.is_empty() {
         return Ok(0);
     }
-    if chunk.len() == 0 {
-        return Ok(0);
-    }
-    chunk[0] = 10;
+    chunk[0] = b'\n';
     Ok(1)
 }

@@ -4,9 +4,10 @@
 ghost use Rattle.std.specs.Prelude.{◌≡◌};
 ghost use Rattle.replay_session.specs.Session.{line_ended, heard_all, session};
 
+use codec::front;
 use replay_answer::Session;
 use replay_line::play;
-use replay_read::{front, keep};
+use replay_read::keep;
 use replay_write::{end, place};
 
 // The line that has arrived, played on the card.
@@ -16,13 +17,11 @@ pub fn end_line(s: Session, memory: &mut [u8], line: &[u8], text: &mut [u8]) -> 
 {
     let bytes = text.len();
     let at = place(text, s.wrote);
-    let r = play(s.card, memory, front(line, s.count), &mut text[at..]);
-    let next = r.card;
-    let wrote = r.wrote;
+    let played = play(s.card, memory, front(line, s.count), &mut text[at..]);
     Session {
-        card: next,
+        card: played.card,
         count: 0,
-        wrote: end(at, wrote, bytes),
+        wrote: end(at, played.wrote, bytes),
     }
 }
 
@@ -38,15 +37,12 @@ pub fn hear_all(
         ≡ heard_all (session s memory.old line.old text.old) chunk.now }
 {
     let mut now = s;
-    let mut i: usize = 0;
-    while i < chunk.len() {
-        let byte = chunk[i];
-        i += 1;
-        if byte == 10 {
+    for byte in chunk {
+        if *byte == b'\n' {
             now = end_line(now, memory, line, text);
             continue;
         }
-        now.count = keep(line, now.count, byte);
+        now.count = keep(line, now.count, *byte);
     }
     now
 }

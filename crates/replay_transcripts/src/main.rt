@@ -4,6 +4,7 @@
 use std::fs::File;
 use std::rt::Files;
 
+// As in `console_transcripts`: a function for both would be handed the files, the errors and the loop, and be longer than these lines.
 fn replay(rt: &(impl Files + Eprint), name: &str) -> std::io::Result<()> {
     let mut file = match File::open(rt, name) {
         Ok(file) => file,

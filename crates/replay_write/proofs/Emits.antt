@@ -24,11 +24,6 @@ pub room : (line text : List ℕ) (n : ℕ) (after : List ℕ) → length line �
 unfolding fitted
 room line text n after h en ea = rw (le-ltb _ _ h, en, ea)
 
-pub copied : (line text after : List ℕ) → length line ≤ length text → after ≡ take (length text) line ++ drop (length line) text
-    → record { answer = done (length line); buffer = after } ≡ fitted line text
-copied line text after h e =
-    room line text _ after h refl (e ∙ ap (λ (l : List ℕ). l ++ drop (length line) text) (take_all (length text) line h))
-
 -- the tag in front, the newline behind, and the digits put between
 module _ (tag digits text : List ℕ) (e : ℕ) (four : length tag ≡ 4) (he : e ≡ 4 + length digits) (h : e < length text) where
   tagged : List ℕ

@@ -11,12 +11,11 @@ mod hex;
 mod text;
 
 use card::answer::Answer;
-use codec::Encoded;
-use replay_read::front;
+use codec::{Refusal, front};
 use text::{bytes_line, put, refusal};
 
 // What is sent is a command, a response, a data block, or a block of the program's memory.
-#[derive(Clone, Copy)]
+#[derive(Clone, Copy, Debug, PartialEq, Eq)]
 pub enum Kind {
     Command,
     Response,
@@ -25,16 +24,15 @@ pub enum Kind {
 }
 
 // The line of an answer, whose bytes are in `out`; refused with 4 where the text has no room for it.
-pub fn write(kind: Kind, answer: Answer, out: &[u8], text: &mut [u8]) -> Encoded
+pub fn write(kind: Kind, answer: Answer, out: &[u8], text: &mut [u8]) -> Result<usize, Refusal>
     ensures { encoding result text.new ≡ write_line kind (Step.answer answer) out.now text.old }
 {
     match answer {
-        Answer::Silence => put(b"none\n", text),
+        Answer::Silence | Answer::Over => put(b"none\n", text),
         Answer::Sent(n) => bytes_line(kind, front(out, n), text),
         Answer::Accepted => put(b"ack\n", text),
         Answer::Rejected => put(b"nak\n", text),
-        Answer::Over => put(b"none\n", text),
-        Answer::Refused(number) => refusal(number, text),
+        Answer::Refused(why) => refusal(why, text),
     }
 }
 
@@ -42,21 +40,10 @@ pub fn write(kind: Kind, answer: Answer, out: &[u8], text: &mut [u8]) -> Encoded
 pub const ROOM: usize = 1035;
 
 // Where a text ends, of so many bytes, with the line that was written at `at`.
-pub fn end(at: usize, e: Encoded, bytes: usize) -> usize
-    ensures { result ≡ min (at + size (encoded e)) bytes }
+pub fn end(at: usize, line: Result<usize, Refusal>, bytes: usize) -> usize
+    ensures { result ≡ min (at + size (encoded line)) bytes }
 {
-    if bytes <= at {
-        return bytes;
-    }
-    match e {
-        Encoded::Wrote(n) => {
-            if n < bytes - at {
-                return at + n;
-            }
-            bytes
-        }
-        Encoded::Refused(_) => at,
-    }
+    at.saturating_add(line.unwrap_or(0)).min(bytes)
 }
 
 // Where the next line goes in a text whose first `count` bytes are lines. Where the room behind them is short they are written
@@ -65,10 +52,8 @@ pub fn place(text: &[u8], count: usize) -> usize
     ensures { (result ≡ place (length text.now) count) × (result ≤ length text.now) }
 {
     // no sum of lengths is made before it is known to fit
-    if count <= text.len() {
-        if text.len() - count >= ROOM {
-            return count;
-        }
+    if count <= text.len() && text.len() - count >= ROOM {
+        return count;
     }
     io::write_all(1, front(text, count));
     0

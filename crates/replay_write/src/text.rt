@@ -1,38 +1,29 @@
 // Lines of output, with their newline.
 ghost use Rattle.std.specs.Prelude.{◌≡◌, [], ◌∷◌, ◌++◌};
-ghost use Rattle.codec.specs.Answer.{encoding};
+ghost use Rattle.codec.specs.Answer.{encoding, row_of};
 ghost use Rattle.replay_read.specs.Hex.{hex};
 ghost use Rattle.replay_write.specs.Write.{word, refusal, fitted};
 
 use crate::Kind;
 use crate::hex::hex_into;
-use codec::Encoded;
+use codec::Refusal;
 
 // The whole line, or nothing.
-pub(crate) fn put(line: &[u8], text: &mut [u8]) -> Encoded
+pub(crate) fn put(line: &[u8], text: &mut [u8]) -> Result<usize, Refusal>
     ensures { encoding result text.new ≡ fitted line.now text.old }
 {
     if text.len() < line.len() {
-        return Encoded::Refused(codec::BUFFER);
+        return Err(Refusal::Buffer);
     }
-    codec::copy(text, line);
-    Encoded::Wrote(line.len())
+    text[..line.len()].copy_from_slice(line);
+    Ok(line.len())
 }
 
-pub(crate) fn refusal(number: u8, text: &mut [u8]) -> Encoded
-    ensures { encoding result text.new ≡ fitted (refusal number) text.old }
+pub(crate) fn refusal(why: Refusal, text: &mut [u8]) -> Result<usize, Refusal>
+    ensures { encoding result text.new ≡ fitted (refusal (row_of why)) text.old }
 {
-    let ones = b'0' + number % 10;
-    if number < 10 {
-        return put(&[b'r', b'e', b'f', b'\t', ones, b'\n'], text);
-    }
-    let tens = b'0' + number / 10 % 10;
-    if number < 100 {
-        return put(&[b'r', b'e', b'f', b'\t', tens, ones, b'\n'], text);
-    }
-    let hundreds = b'0' + number / 100;
     put(
-        &[b'r', b'e', b'f', b'\t', hundreds, tens, ones, b'\n'],
+        &[b'r', b'e', b'f', b'\t', b'0' + u8::from(why), b'\n'],
         text,
     )
 }
@@ -41,27 +32,27 @@ fn tag(kind: Kind) -> [u8; 4]
     ensures { result ≡ word kind }
 {
     match kind {
-        Kind::Command => [b'c', b'm', b'd', b'\t'],
-        Kind::Response => [b'r', b's', b'p', b'\t'],
-        Kind::Block => [b'b', b'l', b'k', b'\t'],
-        Kind::Memory => [b'm', b'e', b'm', b'\t'],
+        Kind::Command => *b"cmd\t",
+        Kind::Response => *b"rsp\t",
+        Kind::Block => *b"blk\t",
+        Kind::Memory => *b"mem\t",
     }
 }
 
 // A word and bytes, in hex.
-pub(crate) fn bytes_line(kind: Kind, bytes: &[u8], text: &mut [u8]) -> Encoded
+pub(crate) fn bytes_line(kind: Kind, bytes: &[u8], text: &mut [u8]) -> Result<usize, Refusal>
     ensures { encoding result text.new ≡ fitted (word kind ++ (hex bytes.now ++ (10 ∷ []))) text.old }
 {
     if text.len() < 5 {
-        return Encoded::Refused(codec::BUFFER);
+        return Err(Refusal::Buffer);
     }
     // no sum of lengths is made before it is known to fit
     if (text.len() - 5) / 2 < bytes.len() {
-        return Encoded::Refused(codec::BUFFER);
+        return Err(Refusal::Buffer);
     }
     let end = 4 + 2 * bytes.len();
     codec::copy(text, &tag(kind));
     text[end] = b'\n';
     hex_into(bytes, &mut text[4..end]);
-    Encoded::Wrote(end + 1)
+    Ok(end + 1)
 }

@@ -15,17 +15,9 @@ fn right(a: Answer) -> u32
     ensures { (result ≡ right (answer a)) × (result ≤ 1) }
 {
     match a {
-        Answer::Silence => 0,
-        Answer::Sent(n) => {
-            if n >= 514 {
-                return 1;
-            }
-            0
-        }
+        Answer::Sent(n) if n >= 514 => 1,
         Answer::Accepted => 1,
-        Answer::Rejected => 0,
-        Answer::Over => 0,
-        Answer::Refused(_) => 0,
+        _ => 0,
     }
 }
 
@@ -35,13 +27,10 @@ fn take_many(card: Card, memory: &[u8], out: &mut [u8], count: u32) -> u32
 {
     let mut now = card;
     let mut n: u32 = 0;
-    let mut taken: u32 = 0;
-    while taken < count {
+    for _ in 0..count {
         let s = card_take::take(now, memory, out);
-        let answer = s.answer;
         now = s.card;
-        n += right(answer);
-        taken += 1;
+        n += right(s.answer);
     }
     n
 }
@@ -52,13 +41,10 @@ fn give_many(card: Card, block: &[u8], memory: &mut [u8], count: u32) -> u32
 {
     let mut now = card;
     let mut n: u32 = 0;
-    let mut given: u32 = 0;
-    while given < count {
+    for _ in 0..count {
         let s = card_block_in::block_in(now, block, memory);
-        let answer = s.answer;
         now = s.card;
-        n += right(answer);
-        given += 1;
+        n += right(s.answer);
     }
     n
 }

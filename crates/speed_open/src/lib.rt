@@ -13,18 +13,10 @@ use reg_cid::cid::Cid;
 fn settings(bytes: usize) -> Settings
     ensures { result ≡ settings bytes }
 {
-    let cid = Cid {
-        mid: 0,
-        oid: 0,
-        pnm: 0,
-        prv: 0,
-        psn: 0,
-        mdt: 0,
-    };
     Settings {
         blocks: (bytes / card::size::BLOCK as usize % 0x1_0000_0000) as u32,
         polls: 0,
-        cid: cid,
+        cid: Cid::default(),
         permanent: false,
         temporary: false,
     }
@@ -34,32 +26,28 @@ fn settings(bytes: usize) -> Settings
 fn powered(memory: &[u8]) -> Card
     ensures { world result memory.now ≡ powered memory.now }
 {
-    let s = card_power::power_up(
+    card_power::power_up(
         card_power::unpowered(),
         settings(memory.len()),
         no_password(),
         memory,
-    );
-    s.card
+    )
+    .card
 }
 
 // The frame of SPI mode, or that of SD mode.
 fn pick(spi: bool, a: [u8; 6], b: [u8; 6]) -> [u8; 6]
     ensures { result ≡ cond spi a b }
 {
-    if spi {
-        return a;
-    }
-    b
+    if spi { a } else { b }
 }
 
 // The record after a frame.
 fn hear(card: Card, spi: bool, frame: [u8; 6], memory: &mut [u8]) -> Card
     ensures { world result memory.new ≡ heard (world card memory.old) spi frame }
 {
-    let mut out: [u8; 17] = [0; 17];
-    let s = card_command::command_frame(card, &frame, spi, memory, &mut out);
-    s.card
+    let mut out = [0u8; 17];
+    card_command::command_frame(card, &frame, spi, memory, &mut out).card
 }
 
 // By 55, A41, 2, 3, 7, or in SPI mode by 0, 55, A41, 59 and 13; and then a frame.

@@ -3,113 +3,107 @@
 
 mod status;
 
-use vectors_print::{byte, encoded, end, given, indexed, refused, space, text, word};
-use wire_frame::command::{CommandRead, FrameCheck};
+use std::{fmt, io};
+use vectors_print::{Hex, Shown, encoded};
+use wire_frame::command::{self, CommandFields, Fault};
 
-fn decoded(s: &[u8]) {
-    match wire_frame::command::decode(s) {
-        CommandRead::Command { index, argument } => {
-            byte(index);
-            space();
-            word(argument);
-            end();
-        }
-        CommandRead::Refused(k) => refused(k),
+// Index and argument of a command that was decoded.
+#[derive(Clone, Copy, Debug)]
+struct Fields(CommandFields);
+
+impl fmt::Display for Fields {
+    fn fmt<W: fmt::Write>(&self, f: &mut fmt::Formatter<W>) -> fmt::Result {
+        write!(f, "{:02X} {:08X}", self.0.index, self.0.argument)
     }
 }
 
-fn command(index: u8, argument: u32) {
-    let mut out = [0u8; 17];
-    indexed(b"command ", index, argument);
-    encoded(wire_frame::command::encode(index, argument, &mut out), &out);
-    text(b"  decoded ");
-    decoded(&out[0..6]);
-}
-
-// A frame as it arrives: what the frame check and the decoder say.
-fn frame(s: &[u8]) {
-    given(b"frame ", s);
-    match wire_frame::command::check(s) {
-        FrameCheck::Good { .. } => text(b"good "),
-        FrameCheck::Size => text(b"size "),
-        FrameCheck::Start => text(b"start or transmission "),
-        FrameCheck::Check => text(b"check or end "),
-    }
-    decoded(s);
-}
-
-// Index and argument, eight digits.
-const COMMANDS: [u64; 41] = [
-    0x00_00000000,
-    0x02_00000000,
-    0x03_00000000,
-    0x07_00010000,
-    0x07_00000000,
-    0x08_000001AA,
-    0x09_00010000,
-    0x0A_00010000,
-    0x0B_00000000,
-    0x0C_00000000,
-    0x0D_00010000,
-    0x0D_00000000,
-    0x0F_00010000,
-    0x10_00000200,
-    0x10_000001FF,
-    0x11_00000000,
-    0x11_00000001,
-    0x11_00007E00,
-    0x11_00008000,
-    0x12_00000000,
-    0x13_00000000,
-    0x18_00000000,
-    0x19_00000000,
-    0x1C_00000000,
-    0x1D_00000000,
-    0x1E_00000000,
-    0x1E_00004000,
-    0x20_00000000,
-    0x21_00000200,
-    0x26_00000000,
-    0x29_00000000,
-    0x29_00FF8000,
-    0x29_40FF8000,
-    0x2A_00000000,
-    0x33_00000000,
-    0x16_00000000,
-    0x17_00000000,
-    0x37_00000000,
-    0x37_00010000,
-    0x3F_FFFFFFFF,
-    0x40_00000000,
+// Index and argument.
+const COMMANDS: [(u8, u32); 41] = [
+    (0x00, 0),
+    (0x02, 0),
+    (0x03, 0),
+    (0x07, 0x00010000),
+    (0x07, 0),
+    (0x08, 0x000001AA),
+    (0x09, 0x00010000),
+    (0x0A, 0x00010000),
+    (0x0B, 0),
+    (0x0C, 0),
+    (0x0D, 0x00010000),
+    (0x0D, 0),
+    (0x0F, 0x00010000),
+    (0x10, 0x00000200),
+    (0x10, 0x000001FF),
+    (0x11, 0),
+    (0x11, 0x00000001),
+    (0x11, 0x00007E00),
+    (0x11, 0x00008000),
+    (0x12, 0),
+    (0x13, 0),
+    (0x18, 0),
+    (0x19, 0),
+    (0x1C, 0),
+    (0x1D, 0),
+    (0x1E, 0),
+    (0x1E, 0x00004000),
+    (0x20, 0),
+    (0x21, 0x00000200),
+    (0x26, 0),
+    (0x29, 0),
+    (0x29, 0x00FF8000),
+    (0x29, 0x40FF8000),
+    (0x2A, 0),
+    (0x33, 0),
+    (0x16, 0),
+    (0x17, 0),
+    (0x37, 0),
+    (0x37, 0x00010000),
+    (0x3F, 0xFFFFFFFF),
+    (0x40, 0),
 ];
 
-fn every_command() {
-    let t = COMMANDS;
-    let mut i: usize = 0;
-    while i < 41 {
-        command(
-            (t[i] / 0x1_0000_0000 % 256) as u8,
-            (t[i] % 0x1_0000_0000) as u32,
-        );
-        i += 1;
+fn commands(rt: &impl Print) -> io::Result<()> {
+    for (index, argument) in COMMANDS {
+        let mut out = [0u8; 17];
+        let written = command::encode(index, argument, &mut out);
+        let frame = encoded(written, &out);
+        println!(rt; "command {index:02X} {argument:08X} {frame}")?;
+        println!(rt;
+            "  decoded {}",
+            Shown(command::decode(&out[..6]).map(Fields))
+        )?;
     }
+    Ok(())
 }
 
-// A frame of six bytes.
-fn six(n: u64) {
-    let mut s = [0u8; 6];
-    codec::put(&mut s, n);
-    frame(&s);
+// Frames as they arrive.
+const FRAMES: [&[u8]; 7] = [
+    &[0x40, 0, 0, 0, 0, 0x95],
+    &[0x40, 0, 0, 0, 0, 0x94],
+    &[0x69, 0, 0, 0, 0, 0],
+    &[0xC0, 0, 0, 0, 0, 0x95],
+    &[0x11, 0, 0, 0x09, 0, 0x67],
+    &[0x40, 0, 0, 0, 0],
+    b"",
+];
+
+// What the frame check and the decoder say.
+fn frames(rt: &impl Print) -> io::Result<()> {
+    for frame in FRAMES {
+        let checked = match command::check(frame) {
+            Ok(_) => "good",
+            Err(Fault::Size) => "size",
+            Err(Fault::Start) => "start or transmission",
+            Err(Fault::Check) => "check or end",
+        };
+        let decoded = Shown(command::decode(frame).map(Fields));
+        println!(rt; "frame {} {checked} {decoded}", Hex(frame))?;
+    }
+    Ok(())
 }
 
-fn main() {
-    every_command();
-    six(0x400000000095);
-    six(0x400000000094);
-    six(0x690000000000);
-    six(0xC00000000095);
-    six(0x110000090067);
-    frame(&[0x40, 0, 0, 0, 0]);
-    frame(b"");
-    status::run();
+fn main(rt: HostRuntime) -> io::Result<()> {
+    commands(&rt)?;
+    frames(&rt)?;
+    status::run(&rt)
 }

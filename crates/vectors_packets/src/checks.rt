@@ -1,37 +1,25 @@
 // The two checks by themselves.
-use vectors_print::{byte, end, given, half, space, text};
+use std::io;
+use vectors_print::Hex;
 
-fn seven(s: &[u8]) {
-    given(b"crc7 ", s);
-    byte(crc::crc7(s));
-    end();
-}
+// CRC7 of heads of frames.
+const HEADS: [&[u8]; 4] = [
+    &[0x40, 0, 0, 0, 0],
+    &[0x51, 0, 0, 0, 0],
+    &[0x11, 0, 0, 0x09, 0],
+    b"",
+];
 
-fn sixteen(s: &[u8]) {
-    space();
-    half(crc::crc16(s));
-    end();
-}
-
-// 512 bytes of one value.
-fn filled(b: u8) {
-    let block = [b; 512];
-    text(b"crc16 512 x ");
-    byte(b);
-    sixteen(&block);
-}
-
-pub fn run() {
-    seven(&[0x40, 0, 0, 0, 0]);
-    seven(&[0x51, 0, 0, 0, 0]);
-    seven(&[0x11, 0, 0, 0x09, 0]);
-    seven(b"");
-    text(b"crc16 empty");
-    sixteen(b"");
-    text(b"crc16 123456789");
-    sixteen(b"123456789");
-    filled(0xFF);
-    filled(0);
-    filled(0xAA);
-    filled(0x55);
+pub fn run(rt: &impl Print) -> io::Result<()> {
+    for head in HEADS {
+        println!(rt; "crc7 {} {:02X}", Hex(head), crc::crc7(head))?;
+    }
+    for (name, s) in [("empty", &b""[..]), ("123456789", b"123456789")] {
+        println!(rt; "crc16 {name} {:04X}", crc::crc16(s))?;
+    }
+    for byte in [0xFF, 0, 0xAA, 0x55] {
+        let check = crc::crc16(&[byte; 512]);
+        println!(rt; "crc16 512 x {byte:02X} {check:04X}")?;
+    }
+    Ok(())
 }

@@ -5,7 +5,9 @@
 mod checks;
 mod packets;
 
-fn main() {
-    checks::run();
-    packets::run();
+use std::io;
+
+fn main(rt: HostRuntime) -> io::Result<()> {
+    checks::run(&rt)?;
+    packets::run(&rt)
 }

@@ -1,82 +1,56 @@
-// Text and capital hex on standard output.
+// What the programs of the standard's samples print: bytes and words in capital hex, and what an encoder or a decoder gave.
 #![tactic(auto)]
 
-pub fn text(s: &[u8]) {
-    io::write_all(1, s);
-}
+use codec::Refusal;
+use std::fmt;
 
-pub fn space() {
-    text(b" ");
-}
+// Bytes, two digits each.
+#[derive(Clone, Copy, Debug)]
+pub struct Hex<'a>(pub &'a [u8]);
 
-// The end of a line.
-pub fn end() {
-    text(b"\n");
-}
-
-fn digit(n: u8) -> u8 {
-    let d = n % 16;
-    if d < 10 { 48 + d } else { 55 + d }
-}
-
-pub fn byte(b: u8) {
-    let t = [digit(b / 16), digit(b % 16)];
-    io::write_all(1, &t);
-}
-
-pub fn hex(s: &[u8]) {
-    let mut i: usize = 0;
-    while i < s.len() {
-        byte(s[i]);
-        i += 1;
+impl fmt::Display for Hex<'_> {
+    fn fmt<W: fmt::Write>(&self, f: &mut fmt::Formatter<W>) -> fmt::Result {
+        for byte in self.0 {
+            write!(f, "{byte:02X}")?;
+        }
+        Ok(())
     }
 }
 
 // A number of 32 bits, eight digits.
-pub fn word(n: u32) {
-    let mut b = [0u8; 4];
-    codec::put32(&mut b, n);
-    hex(&b);
+#[derive(Clone, Copy, Debug)]
+pub struct Word(pub u32);
+
+impl fmt::Display for Word {
+    fn fmt<W: fmt::Write>(&self, f: &mut fmt::Formatter<W>) -> fmt::Result {
+        write!(f, "{:08X}", self.0)
+    }
 }
 
-// A number of 16 bits, four digits.
-pub fn half(n: u16) {
-    let mut b = [0u8; 2];
-    codec::put32(&mut b, n as u32);
-    hex(&b);
+// A refusal, by its number.
+#[derive(Clone, Copy, Debug)]
+pub struct Refused(pub Refusal);
+
+impl fmt::Display for Refused {
+    fn fmt<W: fmt::Write>(&self, f: &mut fmt::Formatter<W>) -> fmt::Result {
+        write!(f, "refused {:02X}", u8::from(self.0))
+    }
 }
 
-// Bytes that are handed in, behind their name.
-pub fn given(name: &[u8], s: &[u8]) {
-    text(name);
-    hex(s);
-    space();
-}
+// What a call gave, or its refusal.
+#[derive(Clone, Copy, Debug)]
+pub struct Shown<T>(pub Result<T, Refusal>);
 
-// An index and a word that are handed in, behind their name.
-pub fn indexed(name: &[u8], index: u8, n: u32) {
-    text(name);
-    byte(index);
-    space();
-    word(n);
-    space();
-}
-
-pub fn refused(number: u8) {
-    text(b"refused ");
-    byte(number);
-    end();
+impl<T: fmt::Display> fmt::Display for Shown<T> {
+    fn fmt<W: fmt::Write>(&self, f: &mut fmt::Formatter<W>) -> fmt::Result {
+        match &self.0 {
+            Ok(value) => write!(f, "{value}"),
+            Err(refusal) => write!(f, "{}", Refused(*refusal)),
+        }
+    }
 }
 
 // The bytes that an encoder wrote, or its refusal.
-pub fn encoded(r: codec::Encoded, out: &[u8]) {
-    match r {
-        codec::Encoded::Wrote(n) => {
-            if n <= out.len() {
-                hex(&out[0..n]);
-            }
-            end();
-        }
-        codec::Encoded::Refused(k) => refused(k),
-    }
+pub fn encoded(written: Result<usize, Refusal>, out: &[u8]) -> Shown<Hex<'_>> {
+    Shown(written.map(|n| Hex(codec::front(out, n))))
 }

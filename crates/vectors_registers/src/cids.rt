@@ -1,41 +1,37 @@
 // CIDs, encoded and decoded.
-use reg_cid::cid::{Cid, CidRead};
-use vectors_print::{byte, encoded, end, half, refused, text, word};
+use reg_cid::cid::{self, Cid};
+use std::io;
+use vectors_print::{Refused, encoded};
 
-fn cid(mid: u8, oid: u16, pnm: u64, prv: u8, psn: u32, mdt: u16) {
-    let mut out = [0u8; 17];
-    text(b"CID ");
-    encoded(
-        reg_cid::cid::encode(
-            Cid {
-                mid,
-                oid,
-                pnm,
-                prv,
-                psn,
-                mdt,
-            },
-            &mut out,
-        ),
-        &out,
-    );
-    match reg_cid::cid::decode(&out[0..16]) {
-        CidRead::Fields(c) => {
-            text(b"  PRV ");
-            byte(c.prv);
-            text(b" PSN ");
-            word(c.psn);
-            text(b" MDT ");
-            half(c.mdt);
-            end();
+pub fn run(rt: &impl Print) -> io::Result<()> {
+    for fields in [
+        Cid::default(),
+        Cid {
+            mid: 0x1B,
+            oid: 0x534D,
+            pnm: 0x3030303030,
+            prv: 0x62,
+            psn: 0x12345678,
+            mdt: 0x014,
+        },
+        Cid {
+            pnm: 0x10000000000,
+            ..Cid::default()
+        },
+        Cid {
+            mdt: 0x1000,
+            ..Cid::default()
+        },
+    ] {
+        let mut out = [0u8; 17];
+        let written = cid::encode(fields, &mut out);
+        println!(rt; "CID {}", encoded(written, &out))?;
+        match cid::decode(&out[..16]) {
+            Ok(Cid { prv, psn, mdt, .. }) => {
+                println!(rt; "  PRV {prv:02X} PSN {psn:08X} MDT {mdt:04X}")?
+            }
+            Err(refusal) => println!(rt; "{}", Refused(refusal))?,
         }
-        CidRead::Refused(k) => refused(k),
     }
-}
-
-pub fn run() {
-    cid(0, 0, 0, 0, 0, 0);
-    cid(0x1B, 0x534D, 0x3030303030, 0x62, 0x12345678, 0x014);
-    cid(0, 0, 0x10000000000, 0, 0, 0);
-    cid(0, 0, 0, 0, 0, 0x1000);
+    Ok(())
 }

@@ -4,7 +4,9 @@
 mod cids;
 mod csds;
 
-fn main() {
-    csds::run();
-    cids::run();
+use std::io;
+
+fn main(rt: HostRuntime) -> io::Result<()> {
+    csds::run(&rt)?;
+    cids::run(&rt)
 }

@@ -1,101 +1,84 @@
 // Vectors of the responses other than R1: encoded from their fields, and decoded.
 #![tactic(auto)]
 
-use vectors_print::{byte, encoded, end, given, half, hex, refused, space, text, word};
-use wire_response_decode::{R3Read, R6Read, R7Read};
-
-fn r3(ocr: u32) {
-    let mut out = [0u8; 17];
-    text(b"R3 ");
-    encoded(wire_response::encode_r3(ocr, &mut out), &out);
-}
-
-fn r3_decoded(s: [u8; 6]) {
-    given(b"R3 ", &s);
-    match wire_response_decode::decode_r3(&s) {
-        R3Read::Ocr(ocr) => {
-            word(ocr);
-            end();
-        }
-        R3Read::Refused(k) => refused(k),
-    }
-}
-
-fn r6_decoded(s: &[u8]) {
-    match wire_response_decode::decode_r6(s) {
-        R6Read::Published { rca, status } => {
-            half(rca);
-            space();
-            half(status);
-            end();
-        }
-        R6Read::Refused(k) => refused(k),
-    }
-}
-
-fn r6(rca: u16, status: u32) {
-    let mut out = [0u8; 17];
-    let short = wire_response::status::short_status(status);
-    text(b"R6 ");
-    encoded(wire_response::encode_r6(rca, short, &mut out), &out);
-    text(b"  decoded ");
-    r6_decoded(&out[0..6]);
-}
-
-fn r7(voltage: u8, pattern: u8) {
-    let mut out = [0u8; 17];
-    text(b"R7 ");
-    encoded(wire_response::encode_r7(voltage, pattern, &mut out), &out);
-}
-
-fn r7_decoded(s: [u8; 6]) {
-    given(b"R7 ", &s);
-    match wire_response_decode::decode_r7(&s) {
-        R7Read::Echo { voltage, pattern } => {
-            byte(voltage);
-            space();
-            byte(pattern);
-            end();
-        }
-        R7Read::Refused(k) => refused(k),
-    }
-}
-
-// The content of an R2's register, without its check, and the number.
-fn r2_decoded(s: &[u8]) {
-    let mut number: u8 = 0;
-    given(b"R2 ", s);
-    let register = wire_response_decode::decode_r2(s, &mut number);
-    if register.len() == 16 {
-        hex(&register[0..15]);
-    }
-    space();
-    byte(number);
-    end();
-}
+use std::io;
+use vectors_print::{Hex, Refused, Shown, Word, encoded};
+use wire_response::status;
+use wire_response_decode::{Echo, Published};
 
 // An R2, one with a wrong check, and one that is a byte short.
-fn register() {
+const R2S: [&[u8]; 3] = [
+    &[0x3F, 0, 0, 0, 0, 0, 0, 0, 0, 0, 0, 0, 0, 0, 0, 0, 0x01],
+    &[0x3F, 0, 0, 0, 0, 0, 0, 0, 0, 0, 0, 0, 0, 0, 0, 0, 0],
+    &[0x3F, 0, 0, 0, 0, 0, 0, 0, 0, 0, 0, 0, 0, 0, 0, 0],
+];
+
+fn r2(rt: &impl Print) -> io::Result<()> {
     let mut out = [0u8; 17];
-    text(b"R2 ");
-    let zeros = [0, 0, 0, 0, 0, 0, 0, 0, 0, 0, 0, 0, 0, 0, 0, 0x01];
-    encoded(wire_response::encode_r2(&zeros, &mut out), &out);
-    r2_decoded(&out);
-    r2_decoded(&[0x3F, 0, 0, 0, 0, 0, 0, 0, 0, 0, 0, 0, 0, 0, 0, 0, 0]);
-    r2_decoded(&[0x3F, 0, 0, 0, 0, 0, 0, 0, 0, 0, 0, 0, 0, 0, 0, 0]);
+    let register = [0, 0, 0, 0, 0, 0, 0, 0, 0, 0, 0, 0, 0, 0, 0, 0x01];
+    let written = wire_response::encode_r2(&register, &mut out);
+    println!(rt; "R2 {}", encoded(written, &out))?;
+    // the content of the register, without its check, and the number of the refusal
+    for s in R2S {
+        match wire_response_decode::decode_r2(s) {
+            Ok(register) => println!(rt; "R2 {} {} 00", Hex(s), Hex(codec::front(register, 15)))?,
+            Err(refusal) => println!(rt; "R2 {}  {:02X}", Hex(s), u8::from(refusal))?,
+        }
+    }
+    Ok(())
 }
 
-fn main() {
-    register();
-    r3(0x00FF8000);
-    r3(0x80FF8000);
-    r3(0xC0FF8000);
-    r3_decoded([0x3F, 0x80, 0xFF, 0x80, 0, 0xFF]);
-    r3_decoded([0x3F, 0x80, 0xFF, 0x80, 0, 0x7F]);
-    r6(1, 0x00000500);
-    r6(0xFFFF, 0xFFFFFFFF);
-    r7(1, 0xAA);
-    r7(16, 0);
-    r7_decoded([0x08, 0, 0, 0x01, 0xAA, 0x13]);
-    r7_decoded([0x08, 0xFF, 0, 0x01, 0xAA, 0x13]);
+fn r3(rt: &impl Print) -> io::Result<()> {
+    for ocr in [0x00FF8000, 0x80FF8000, 0xC0FF8000] {
+        let mut out = [0u8; 17];
+        let written = wire_response::encode_r3(ocr, &mut out);
+        println!(rt; "R3 {}", encoded(written, &out))?;
+    }
+    for s in [
+        [0x3F, 0x80, 0xFF, 0x80, 0, 0xFF],
+        [0x3F, 0x80, 0xFF, 0x80, 0, 0x7F],
+    ] {
+        let ocr = wire_response_decode::decode_r3(&s).map(Word);
+        println!(rt; "R3 {} {}", Hex(&s), Shown(ocr))?;
+    }
+    Ok(())
+}
+
+fn r6(rt: &impl Print) -> io::Result<()> {
+    for (rca, card_status) in [(1, 0x00000500), (0xFFFF, 0xFFFFFFFF)] {
+        let mut out = [0u8; 17];
+        let written = wire_response::encode_r6(rca, status::short_status(card_status), &mut out);
+        println!(rt; "R6 {}", encoded(written, &out))?;
+        match wire_response_decode::decode_r6(&out[..6]) {
+            Ok(Published { rca, status }) => println!(rt; "  decoded {rca:04X} {status:04X}")?,
+            Err(refusal) => println!(rt; "  decoded {}", Refused(refusal))?,
+        }
+    }
+    Ok(())
+}
+
+fn r7(rt: &impl Print) -> io::Result<()> {
+    for (voltage, pattern) in [(1, 0xAA), (16, 0)] {
+        let mut out = [0u8; 17];
+        let written = wire_response::encode_r7(voltage, pattern, &mut out);
+        println!(rt; "R7 {}", encoded(written, &out))?;
+    }
+    for s in [
+        [0x08, 0, 0, 0x01, 0xAA, 0x13],
+        [0x08, 0xFF, 0, 0x01, 0xAA, 0x13],
+    ] {
+        print!(rt; "R7 {} ", Hex(&s))?;
+        match wire_response_decode::decode_r7(&s) {
+            Ok(Echo { voltage, pattern }) => println!(rt; "{voltage:02X} {pattern:02X}")?,
+            Err(refusal) => println!(rt; "{}", Refused(refusal))?,
+        }
+    }
+    Ok(())
+}
+
+fn main(rt: HostRuntime) -> io::Result<()> {
+    r2(&rt)?;
+    r3(&rt)?;
+    r6(&rt)?;
+    r7(&rt)
 }

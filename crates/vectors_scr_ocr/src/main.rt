@@ -4,7 +4,10 @@
 mod registers_of;
 mod sizes;
 
-fn main() {
-    registers_of::run();
-    sizes::run();
+use std::io;
+
+fn main(rt: HostRuntime) -> io::Result<()> {
+    registers_of::scrs(&rt)?;
+    registers_of::ocrs(&rt)?;
+    sizes::run(&rt)
 }

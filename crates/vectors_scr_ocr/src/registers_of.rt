@@ -1,77 +1,66 @@
 // The SCR and the OCR, encoded and decoded.
-use reg_scr_ocr::ocr::{Ocr, OcrRead};
-use reg_scr_ocr::scr::{Scr, ScrRead};
-use vectors_print::{byte, encoded, end, half, hex, refused, text};
+use reg_scr_ocr::ocr::{self, Ocr};
+use reg_scr_ocr::scr::{self, Scr};
+use std::io;
+use vectors_print::{Hex, Refused, encoded};
 
-fn scr(sd_spec: u8, sd_bus_widths: u8) {
-    let mut out = [0u8; 17];
-    text(b"SCR ");
-    let c = Scr {
-        scr_structure: 0,
-        sd_spec,
-        data_stat_after_erase: false,
-        sd_security: 0,
-        sd_bus_widths,
-    };
-    encoded(reg_scr_ocr::scr::encode(c, &mut out), &out);
-}
+const SCRS: [&[u8]; 3] = [
+    &[0x02, 0x01, 0, 0, 0, 0, 0, 0],
+    &[0x02, 0x05, 0xFF, 0xFF, 0xFF, 0xFF, 0xFF, 0xFF],
+    &[0x02, 0x01, 0, 0, 0, 0, 0],
+];
 
-fn scr_decoded(s: &[u8]) {
-    text(b"SCR ");
-    hex(s);
-    match reg_scr_ocr::scr::decode(s) {
-        ScrRead::Fields(c) => {
-            text(b" SD_SPEC ");
-            byte(c.sd_spec);
-            text(b" SD_BUS_WIDTHS ");
-            byte(c.sd_bus_widths);
-            end();
-        }
-        ScrRead::Refused(k) => refused(k),
+pub fn scrs(rt: &impl Print) -> io::Result<()> {
+    for (sd_spec, sd_bus_widths) in [(2, 1), (2, 5), (16, 1)] {
+        let mut out = [0u8; 17];
+        let fields = Scr {
+            sd_spec,
+            sd_bus_widths,
+            ..Scr::default()
+        };
+        let written = scr::encode(fields, &mut out);
+        println!(rt; "SCR {}", encoded(written, &out))?;
     }
-}
-
-fn ocr(busy: bool, capacity: bool, window: u16) {
-    let mut out = [0u8; 17];
-    text(b"OCR ");
-    encoded(
-        reg_scr_ocr::ocr::encode(
-            Ocr {
-                busy,
-                capacity,
-                window,
-            },
-            &mut out,
-        ),
-        &out,
-    );
-}
-
-fn ocr_decoded(s: &[u8]) {
-    text(b"OCR ");
-    hex(s);
-    match reg_scr_ocr::ocr::decode(s) {
-        OcrRead::Fields(c) => {
-            text(b" window ");
-            half(c.window);
-            end();
+    for s in SCRS {
+        print!(rt; "SCR {}", Hex(s))?;
+        match scr::decode(s) {
+            Ok(
+                Scr {
+                    sd_spec,
+                    sd_bus_widths,
+                    ..
+                },
+            ) => println!(rt; " SD_SPEC {sd_spec:02X} SD_BUS_WIDTHS {sd_bus_widths:02X}")?,
+            Err(refusal) => println!(rt; "{}", Refused(refusal))?,
         }
-        OcrRead::Refused(k) => refused(k),
     }
+    Ok(())
 }
 
-pub fn run() {
-    scr(2, 1);
-    scr(2, 5);
-    scr(16, 1);
-    scr_decoded(&[0x02, 0x01, 0, 0, 0, 0, 0, 0]);
-    scr_decoded(&[0x02, 0x05, 0xFF, 0xFF, 0xFF, 0xFF, 0xFF, 0xFF]);
-    scr_decoded(&[0x02, 0x01, 0, 0, 0, 0, 0]);
-    ocr(false, false, 0x1FF);
-    ocr(true, false, 0x1FF);
-    ocr(true, true, 0x1FF);
-    ocr(true, false, 0x200);
-    ocr_decoded(&[0x80, 0xFF, 0x80, 0]);
-    ocr_decoded(&[0xBF, 0xFF, 0xFF, 0xFF]);
-    ocr_decoded(b"");
+const OCRS: [&[u8]; 3] = [&[0x80, 0xFF, 0x80, 0], &[0xBF, 0xFF, 0xFF, 0xFF], b""];
+
+pub fn ocrs(rt: &impl Print) -> io::Result<()> {
+    for (busy, capacity, window) in [
+        (false, false, 0x1FF),
+        (true, false, 0x1FF),
+        (true, true, 0x1FF),
+        (true, false, 0x200),
+    ] {
+        let mut out = [0u8; 17];
+        let fields = Ocr {
+            busy,
+            capacity,
+            window,
+        };
+        let written = ocr::encode(fields, &mut out);
+        println!(rt; "OCR {}", encoded(written, &out))?;
+    }
+    for s in OCRS {
+        print!(rt; "OCR {}", Hex(s))?;
+        match ocr::decode(s) {
+            Ok(Ocr { window, .. }) => println!(rt; " window {window:04X}")?,
+            Err(refusal) => println!(rt; "{}", Refused(refusal))?,
+        }
+    }
+    Ok(())
 }

@@ -1,42 +1,25 @@
 // The size pair of block counts.
 use reg_size::SizePair;
-use vectors_print::{byte, end, half, text, word};
+use std::io;
 
-fn pair(blocks: u32) {
-    text(b"blocks ");
-    word(blocks);
-    match reg_size::size_pair(blocks) {
-        SizePair::Pair {
-            c_size,
-            c_size_mult,
-        } => {
-            text(b" C_SIZE ");
-            half(c_size);
-            text(b" C_SIZE_MULT ");
-            byte(c_size_mult);
-            end();
+const BLOCKS: [u32; 18] = [
+    0, 2, 4, 64, 8192, 16384, 16388, 16392, 28800, 32784, 59776, 65528, 65536, 121856, 246016,
+    2097152, 2097153, 4194304,
+];
+
+pub fn run(rt: &impl Print) -> io::Result<()> {
+    for blocks in BLOCKS {
+        match reg_size::size_pair(blocks) {
+            Some(
+                SizePair {
+                    c_size,
+                    c_size_mult,
+                },
+            ) => println!(rt;
+                "blocks {blocks:08X} C_SIZE {c_size:04X} C_SIZE_MULT {c_size_mult:02X}"
+            )?,
+            None => println!(rt; "blocks {blocks:08X} no pair")?,
         }
-        SizePair::NoPair => text(b" no pair\n"),
     }
-}
-
-pub fn run() {
-    pair(0);
-    pair(2);
-    pair(4);
-    pair(64);
-    pair(8192);
-    pair(16384);
-    pair(16388);
-    pair(16392);
-    pair(28800);
-    pair(32784);
-    pair(59776);
-    pair(65528);
-    pair(65536);
-    pair(121856);
-    pair(246016);
-    pair(2097152);
-    pair(2097153);
-    pair(4194304);
+    Ok(())
 }

@@ -12,16 +12,18 @@ use lib.ListN.{length, get_or, take, drop}
 use Rattle.crc.specs.Bits.{bits, bits_of, Bytes}
 use Rattle.crc.specs.Crc.{crc, poly7}
 use Rattle.crc.proofs.Bits.{bits-join}
-use Rattle.codec.specs.Answer.{done, refused, SIZE, WRONG}
+use Rattle.std.specs.Prelude.{Result, Err}
+use Rattle.codec.specs.Answer.{done, refused, SIZE, WRONG, row_of}
 use Rattle.codec.specs.Layout.{Slot, field, fixed, width, write, read, judged, fits}
 use Rattle.codec.specs.Format.{right, encode, decode}
 use Rattle.codec.proofs.Bits.{test_eq, both}
 use Rattle.codec.proofs.Words.{within, judged_in, read_word, judged-word}
-use Rattle.wire_frame.specs.Command.{command, good, frame_check, passed_over, frame_check_by, frame_outcome}
+use Rattle.wire_frame.specs.Command.{command, good, frame_check, passed_over, frame_check_by, frame_outcome, refusal_of}
 use Rattle.wire_frame.specs.Claims.{FrameDecoded, CheckedBy}
 use Rattle.wire_frame.specs.Frame.{closing, encode_frame}
-use Rattle.wire_frame.specs.declared.command.FrameCheck.{FrameCheck}
-use Rattle.wire_frame.specs.declared.command.FrameCheck.TheVariants.{Good, Size, Start, Check}
+use Rattle.wire_frame.specs.declared.command.CommandFields.{CommandFields}
+use Rattle.wire_frame.specs.declared.command.Fault.{Fault}
+use Rattle.wire_frame.specs.declared.command.Fault.TheVariants.{Size, Start, Check}
 use Rattle.wire_frame.proofs.Frames.{content, bits_of-first, content_lt, read-content, same-last, encode-framed, image-frame, right-frame}
 
 -- ---- the first byte
@@ -74,50 +76,52 @@ checked_by = record { on = on; good = stays }
   where
     on : (s : List ℕ) → frame_check_by true s ≡ frame_check s
     on s =
-        ap (λ (q : Bool). cond (eqb (length s) 6) (cond (judged command.slots (bits_of s)) (cond q (good (read command.slots (bits_of s))) Check) Start) Size)
+        ap (λ (q : Bool). cond (eqb (length s) 6) (cond (judged command.slots (bits_of s)) (cond q (good (get_or (read command.slots (bits_of s)) 0 0) (get_or (read command.slots (bits_of s)) 1 0)) (Err Check)) (Err Start)) (Err Size))
         (or-false (right command s))
 
-    cases : (t j q r : Bool) (k : FrameCheck) (index argument : ℕ) → cond t (cond j (cond q k Check) Start) Size ≡ Good index argument
-        → cond t (cond j (cond (q || r) k Check) Start) Size ≡ Good index argument
+    cases : (t j q r : Bool) (k : Result CommandFields Fault) (index argument : ℕ)
+        → cond t (cond j (cond q k (Err Check)) (Err Start)) (Err Size) ≡ good index argument
+        → cond t (cond j (cond (q || r) k (Err Check)) (Err Start)) (Err Size) ≡ good index argument
     cases true true true r k index argument e = e
-    cases true true false r k index argument e = absurd (let z : ◌≡◌ {A = ℕ} 0 1 = cc in omega arith)
-    cases true false q r k index argument e = e
-    cases false j q r k index argument e = e
+    cases true true false r k index argument e = cc
+    cases true false q r k index argument e = cc
+    cases false j q r k index argument e = cc
 
-    stays : (checks : Bool) (s : List ℕ) (index argument : ℕ) → frame_check s ≡ Good index argument → frame_check_by checks s ≡ Good index argument
+    stays : (checks : Bool) (s : List ℕ) (index argument : ℕ) → frame_check s ≡ good index argument → frame_check_by checks s ≡ good index argument
     stays checks s index argument e =
         cases (eqb (length s) 6) (judged command.slots (bits_of s)) (right command s) (passed_over checks s) _ index argument e
 
 -- a check that is looked at only behind a right start
-behind : (p q r : Bool) (k : FrameCheck) → cond p (cond ((p && q) || r) k Check) Start ≡ cond p (cond (q || r) k Check) Start
+behind : (p q r : Bool) (k : Result CommandFields Fault)
+    → cond p (cond ((p && q) || r) k (Err Check)) (Err Start) ≡ cond p (cond (q || r) k (Err Check)) (Err Start)
 behind true q r k = refl
 behind false q r k = refl
 
 -- the command of six bytes
-abbrev pub found : List ℕ → FrameCheck
-found s = Good (bit_and (get_or s 0 0) 63) (content s)
+abbrev pub found : List ℕ → Result CommandFields Fault
+found s = good (bit_and (get_or s 0 0) 63) (content s)
 
 -- the last byte of six need not be right
 abbrev pub passed : Bool → List ℕ → Bool
 passed checks s = not checks && (not (eqb (bit_and (get_or s 0 0) 63) 8) && eqb (get_or s 5 0 % 2) 1)
 
 module _ (checks : Bool) (s : List ℕ) (h : length s ≡ 6) (b : Bytes s) where
-  pub frame_check-start : frame_check_by checks s ≡ cond (eqb (get_or s 0 0 / 2 ^ 6) 1) (cond (right command s || passed checks s) (found s) Check) Start
+  pub frame_check-start : frame_check_by checks s ≡ cond (eqb (get_or s 0 0 / 2 ^ 6) 1) (cond (right command s || passed checks s) (found s) (Err Check)) (Err Start)
   unfolding frame_check_by
   frame_check-start =
-      ap₂ (λ (t j : Bool). cond t (cond j (cond (right command s || passed_over checks s) (good (read command.slots (bits_of s))) Check) Start) Size)
+      ap₂ (λ (t j : Bool). cond t (cond j (cond (right command s || passed_over checks s) (good (get_or (read command.slots (bits_of s)) 0 0) (get_or (read command.slots (bits_of s)) 1 0)) (Err Check)) (Err Start)) (Err Size))
       (eq-eqb (length s) 6 h) (judged-command s h b)
       ∙ ap (λ (fs : List ℕ). cond (eqb (get_or s 0 0 / 2 ^ 6) 1)
-      (cond (right command s || (not checks && (not (eqb (get_or fs 0 0) 8) && eqb (get_or s 5 0 % 2) 1))) (good fs) Check) Start)
+      (cond (right command s || (not checks && (not (eqb (get_or fs 0 0) 8) && eqb (get_or s 5 0 % 2) 1))) (good (get_or fs 0 0) (get_or fs 1 0)) (Err Check)) (Err Start))
       (read-command s h)
 
   pub frame_check-bytes : (c : ℕ) → c < 256 → bits 8 c ≡ crc poly7 (bits_of (take 5 s)) ++ (true ∷ [])
-      → frame_check_by checks s ≡ cond (eqb (get_or s 0 0 / 2 ^ 6) 1) (cond (eqb (get_or s 5 0) c || passed checks s) (found s) Check) Start
+      → frame_check_by checks s ≡ cond (eqb (get_or s 0 0 / 2 ^ 6) 1) (cond (eqb (get_or s 5 0) c || passed checks s) (found s) (Err Check)) (Err Start)
   unfolding closing width
   frame_check-bytes c hc e =
       let p = eqb (get_or s 0 0 / 2 ^ 6) 1 in
       frame_check-start
-      ∙ ap (λ (q : Bool). cond p (cond (q || passed checks s) (found s) Check) Start)
+      ∙ ap (λ (q : Bool). cond p (cond (q || passed checks s) (found s) (Err Check)) (Err Start))
       (right-frame command.slots s refl ∙ ap₂ (λ (t q : Bool). t && q) (judged-command s h b) (same-last true s c h b hc e))
       ∙ behind p (eqb (get_or s 5 0) c) (passed checks s) (found s)
 
@@ -129,15 +133,23 @@ frame-decoded s = go (eqb (length s) 6) (judged command.slots (bits_of s)) _
     fs : List ℕ
     fs = read command.slots (bits_of s)
 
-    go : (t j q : Bool) → frame_outcome (cond t (cond j (cond (j && q) (good fs) Check) Start) Size)
+    go : (t j q : Bool) → frame_outcome (cond t (cond j (cond (j && q) (good (get_or fs 0 0) (get_or fs 1 0)) (Err Check)) (Err Start)) (Err Size))
         ≡ cond t (cond (j && q) (done fs) (refused WRONG)) (refused SIZE)
     go false j q = refl
     go true false q = refl
     go true true true = refl
     go true true false = refl
 
-pub decode-checked : (s : List ℕ) (k : FrameCheck) → k ≡ frame_check s → frame_outcome k ≡ decode command s
+pub decode-checked : (s : List ℕ) (k : Result CommandFields Fault) → k ≡ frame_check s → frame_outcome k ≡ decode command s
 decode-checked s k e = ap frame_outcome e ∙ frame-decoded s
+
+pub decode-refused : (s : List ℕ) (f : Fault) → frame_check s ≡ Err f → refused (row_of (refusal_of f)) ≡ decode command s
+decode-refused s f e = same_number f ∙ decode-checked s (Err f) (sym e)
+  where
+    same_number : (f : Fault) → refused (row_of (refusal_of f)) ≡ frame_outcome (Err f)
+    same_number Size = refl
+    same_number Start = refl
+    same_number Check = refl
 
 -- ---- encoding
 

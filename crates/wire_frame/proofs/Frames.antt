@@ -14,14 +14,14 @@ use Rattle.crc.specs.Bits.{bits, number, bits_of, bytes, Bytes}
 use Rattle.crc.specs.Crc.{crc, poly7}
 use Rattle.crc.specs.Detection.{same}
 use Rattle.crc.proofs.Bits.{number_lt, length-bits, length-bytes, bits_of-bytes, bytes_append}
-use Rattle.codec.specs.Answer.{Outcome, done, refused, SIZE, WRONG, encoding, emit}
-use Rattle.codec.specs.declared.Encoded.TheVariants.{Wrote}
+use Rattle.codec.specs.Answer.{Outcome, done, refused, SIZE, WRONG, encoding, emit, outcome_of}
+use Rattle.std.specs.Prelude.{Result, Ok, Err}
+use Rattle.codec.specs.declared.Refusal.{Refusal}
 use Rattle.codec.specs.Layout.{Slot, width, write, read, judged, fits}
 use Rattle.codec.specs.Format.{Format, Ending, crc7_from, ended, image, right, encode, decode}
 use Rattle.codec.proofs.Bits.{take-bits_of, drop-bits_of, bits_of-last, length-bits_of_take, same_bits}
 use Rattle.codec.proofs.Words.{within, read_word, bits_of-word, byte-bits}
 use Rattle.wire_frame.specs.Frame.{closing, frame, encode_frame, whole, read_frame, frame_read}
-use Rattle.wire_frame.specs.declared.frame.FrameRead.{FrameRead}
 
 -- ---- reading
 
@@ -81,9 +81,26 @@ abbrev pub turned : (ℕ → List ℕ) → Outcome ℕ → Outcome (List ℕ)
 turned g (done w) = done (g w)
 turned g (refused k) = refused k
 
-pub turned-read : (g : ℕ → List ℕ) (r q : FrameRead) (o : Outcome ℕ) (d : Outcome (List ℕ)) → r ≡ q → frame_read r ≡ o → d ≡ turned g o
+pub turned-read : (g : ℕ → List ℕ) (r q : Result ℕ Refusal) (o : Outcome ℕ) (d : Outcome (List ℕ)) → r ≡ q → frame_read r ≡ o → d ≡ turned g o
     → turned g (frame_read q) ≡ d
-turned-read g r q o d p e h = ap (λ (x : FrameRead). turned g (frame_read x)) (sym p) ∙ ap (turned g) e ∙ sym h
+turned-read g r q o d p e h = ap (λ (x : Result ℕ Refusal). turned g (frame_read x)) (sym p) ∙ ap (turned g) e ∙ sym h
+
+-- what was read, as a decoder hands it on
+pub outcome-turned : (g : ℕ → List ℕ) (r : Result ℕ Refusal) → outcome_of g r ≡ turned g (frame_read r)
+outcome-turned g (Ok w) = refl
+outcome-turned g (Err e) = refl
+
+-- a content has 32 bits
+pub turned-same : (g h : ℕ → List ℕ) (checked : Bool) (index : ℕ) (s : List ℕ) → ((w : ℕ) → w < 2 ^ 32 → g w ≡ h w)
+    → turned g (read_frame checked index s) ≡ turned h (read_frame checked index s)
+unfolding read_frame
+turned-same g h checked index s e = go (eqb (length s) 6) (whole checked index s) refl
+  where
+    go : (p q : Bool) → eqb (length s) 6 ≡ p → turned g (cond p (cond q (done (content s)) (refused WRONG)) (refused SIZE))
+        ≡ turned h (cond p (cond q (done (content s)) (refused WRONG)) (refused SIZE))
+    go true true l = ap done (e (content s) (content_lt s (eqb-true (length s) 6 l)))
+    go true false l = refl
+    go false q l = refl
 
 pub decode-frame : (slots : List Slot) (ending : Ending) (g : ℕ → List ℕ) (checked : Bool) (index : ℕ) (s : List ℕ)
     → (length s ≡ 6 → right (record { size = 6; slots = slots; ending = ending }) s ≡ whole checked index s)
@@ -135,9 +152,9 @@ module _ (n first : ℕ) (out mid : List ℕ) (l : length mid ≡ length (take n
   pub stored-length : (k last : ℕ) → length (set (put_mid 1 n (set out 0 first) mid) k last) ≡ length out
   stored-length k last = length-set (put_mid 1 n (set out 0 first) mid) k last ∙ length-stored
 
-pub emitted : (n : ℕ) (s buffer out : List ℕ) → length s ≡ n → buffer ≡ s ++ drop n out → encoding (Wrote n) buffer ≡ emit s out
+pub emitted : (n : ℕ) (s buffer out : List ℕ) → length s ≡ n → buffer ≡ s ++ drop n out → encoding (Ok n) buffer ≡ emit s out
 emitted n s buffer out h e =
-    ap (encoding (Wrote n)) e ∙ ap (λ (k : ℕ). record { answer = done k; buffer = s ++ drop k out }) (sym h)
+    ap (encoding (Ok n)) e ∙ ap (λ (k : ℕ). record { answer = done k; buffer = s ++ drop k out }) (sym h)
 
 frame-bytes : (checked : Bool) (first w c : ℕ) → first < 256 → c < 256
     → bits 8 c ≡ closing checked (bits_of (first ∷ bytes 4 (bits 32 w)))
@@ -159,7 +176,7 @@ put-content first w out mid h e = e ∙ ap (λ (k : ℕ). bytes k (bits (8 * k) 
 
 pub frame-stored : (checked : Bool) (first w c : ℕ) (out mid : List ℕ) → first < 256 → c < 256 → 17 ≤ length out → mid ≡ bytes 4 (bits 32 w)
     → bits 8 c ≡ closing checked (bits_of (take 5 (put_mid 1 4 (set out 0 first) mid)))
-    → encoding (Wrote 6) (set (put_mid 1 4 (set out 0 first) mid) 5 c) ≡ encode_frame true checked first w out
+    → encoding (Ok 6) (set (put_mid 1 4 (set out 0 first) mid) 5 c) ≡ encode_frame true checked first w out
 unfolding encode_frame frame
 frame-stored checked first w c out mid hf hc h m e =
     let l : length mid ≡ 4 = ap length m ∙ length-bytes 4 (bits 32 w) in

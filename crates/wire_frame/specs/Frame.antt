@@ -1,11 +1,10 @@
 -- What the 48-bit frames share: a first byte, 32 bits of content, and a last byte of CRC7 and end bit or of ones.
-use Rattle.std.specs.Prelude.{Bool, true, cond, ◌&&◌, List, [], ◌∷◌, ◌++◌, ℕ, eqb, ltb, length, get_or, take, drop}
+use Rattle.std.specs.Prelude.{Bool, true, cond, ◌&&◌, List, [], ◌∷◌, ◌++◌, ℕ, eqb, ltb, length, get_or, take, drop, Result}
 use Rattle.crc.specs.Bits.{bits, number, bits_of, bytes}
 use Rattle.crc.specs.Crc.{crc, poly7}
 use Rattle.crc.specs.Detection.{same}
-use Rattle.codec.specs.Answer.{Outcome, done, refused, SIZE, BUFFER, WRONG, FIELD, Encoding, refuse, emit}
-use Rattle.wire_frame.specs.declared.frame.FrameRead.{FrameRead}
-use Rattle.wire_frame.specs.declared.frame.FrameRead.TheVariants.{Content, Refused}
+use Rattle.codec.specs.declared.Refusal.{Refusal}
+use Rattle.codec.specs.Answer.{Outcome, done, refused, SIZE, BUFFER, WRONG, FIELD, Encoding, refuse, emit, outcome_of}
 
 -- the last eight bits, behind the others
 unfoldable pub closing : Bool → List Bool → List Bool
@@ -32,6 +31,5 @@ unfoldable pub read_frame : Bool → ℕ → List ℕ → Outcome ℕ
 read_frame checked index s =
     cond (eqb (length s) 6) (cond (whole checked index s) (done (number (bits_of (take 4 (drop 1 s))))) (refused WRONG)) (refused SIZE)
 
-abbrev pub frame_read : FrameRead → Outcome ℕ
-frame_read (Content w) = done w
-frame_read (Refused k) = refused k
+abbrev pub frame_read : Result ℕ Refusal → Outcome ℕ
+frame_read = outcome_of (λ content. content)

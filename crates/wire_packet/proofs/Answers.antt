@@ -1,11 +1,11 @@
 -- What the encoder and the decoder answer, case by case.
-use mathlib.Core.Path.{◌≡◌, sym, ap}
+use mathlib.Core.Path.{◌≡◌}
 use mathlib.Core.Bool.{true, false}
 use mathlib.Core.List.{List}
 use Prim.Native.Nat.{ℕ, ◌+◌, ◌≤◌, ◌<◌}
 use borrow.Author.Tests.{lt-ltb, le-ltb, le-leb, lt-leb}
 use lib.ListN.{length}
-use Rattle.codec.specs.Answer.{Outcome, done, refused, SIZE, WRONG, BUFFER, why, part, refuse, emit}
+use Rattle.codec.specs.Answer.{done, refused, SIZE, WRONG, BUFFER, refuse, emit}
 use Rattle.wire_packet.specs.Packet.{PAYLOAD, CHECK, packet, payload_of, packet_right, encode_packet, decode_packet}
 
 -- ---- the decoder
@@ -31,10 +31,6 @@ decode-long p h l = simp (le-leb _ _ h, lt-leb _ _ l)
 pub decode-wrong : (p : List ℕ) → 1 + CHECK ≤ length p → length p ≤ PAYLOAD + CHECK → packet_right p ≡ false → decode_packet p ≡ refused WRONG
 unfolding decode_packet
 decode-wrong p h l e = simp (le-leb _ _ h, le-leb _ _ l, e)
-
--- the two things that a decoder leaves
-pub left : (p : List ℕ) (o : Outcome (List ℕ)) → decode_packet p ≡ o → (why o ≡ why (decode_packet p)) × (part o ≡ part (decode_packet p))
-left p o e = (ap why (sym e), ap part (sym e))
 
 -- ---- the encoder
 

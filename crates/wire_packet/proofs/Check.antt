@@ -7,7 +7,6 @@ use native.Mathlib.Nat.{mod-eq_of_lt}
 use native.Mathlib.Omega.{arith}
 use lib.Dec.{eqb}
 use lib.ListN.{length, take, drop, length-drop}
-use lib.Seq.{take_all}
 use Rattle.crc.specs.Bits.{bits, number, bits_of, bytes}
 use Rattle.crc.specs.Crc.{crc, poly16, crc16_of}
 use Rattle.crc.specs.Detection.{same}
@@ -40,19 +39,16 @@ module _ (p : List ℕ) (h : CHECK ≤ length p) where
   length_last = length-bits_of (drop (length p - CHECK) p) ∙ omega (arith, length-drop (length p - CHECK) p)
 
   -- the code's test: the numbers of the last two bytes and of the check
-  pub right-number : (read check : ℕ) → read ≡ number (bits_of (take (length p - (length p - CHECK)) (drop (length p - CHECK) p))) % 2 ^ 32
-      → check ≡ crc16_of (take (length p - CHECK - 0) p) → packet_right p ≡ eqb read check
+  pub right-number : (read check : ℕ) → read ≡ number (bits_of (drop (length p - CHECK) p)) % 2 ^ 32
+      → check ≡ crc16_of (take (length p - CHECK) p) → packet_right p ≡ eqb read check
   unfolding packet_right payload_of crc16_of
   right-number read check hr hc =
       let n = length p - CHECK in
       let last : List Bool = bits_of (drop n p) in
-      let whole : n ≡ n - 0 = omega arith in
       same_number last (crc poly16 (bits_of (take n p))) length_last (length-check (bits_of (take n p)))
       ∙ ap₂ eqb
-      (sym (mod-eq_of_lt (omega (arith, number_16 last length_last)))
-      ∙ ap (λ (s : List ℕ). number (bits_of s) % 2 ^ 32) (sym (take_all (length p - n) (drop n p) (omega (arith, length-drop n p))))
-      ∙ sym hr)
-      (ap (λ (k : ℕ). number (crc poly16 (bits_of (take k p)))) whole ∙ sym hc)
+      (sym (mod-eq_of_lt (omega (arith, number_16 last length_last))) ∙ sym hr)
+      (sym hc)
 
   pub right-bits : packet_right p ≡ true → bits_of p ≡ bits_of (payload_of p) ++ crc poly16 (bits_of (payload_of p))
   unfolding packet_right payload_of

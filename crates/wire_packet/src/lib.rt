@@ -2,10 +2,10 @@
 #![tactic(auto)]
 
 ghost use Rattle.std.specs.Prelude.{◌≡◌};
-ghost use Rattle.codec.specs.Answer.{encoding, why, part};
+ghost use Rattle.codec.specs.Answer.{encoding, part_read};
 ghost use Rattle.wire_packet.specs.Packet.{encode_packet, decode_packet};
 
-use codec::Encoded;
+use codec::Refusal;
 
 // The most bytes of a payload.
 pub const PAYLOAD: usize = 512;
@@ -13,41 +13,37 @@ pub const PAYLOAD: usize = 512;
 // The bytes of a check.
 pub const CHECK: usize = 2;
 
-pub fn encode(payload: &[u8], out: &mut [u8]) -> Encoded
+pub fn encode(payload: &[u8], out: &mut [u8]) -> Result<usize, Refusal>
     ensures { encoding result out.new ≡ encode_packet payload.now out.old }
 {
     let n = payload.len();
     if n < 1 {
-        return Encoded::Refused(codec::SIZE);
+        return Err(Refusal::Size);
     }
     if n > PAYLOAD {
-        return Encoded::Refused(codec::SIZE);
+        return Err(Refusal::Size);
     }
     if out.len() < PAYLOAD + CHECK {
-        return Encoded::Refused(codec::BUFFER);
+        return Err(Refusal::Buffer);
     }
     codec::copy(&mut out[0..n], payload);
     codec::put32(&mut out[n..n + CHECK], crc::crc16(payload) as u32);
-    Encoded::Wrote(n + CHECK)
+    Ok(n + CHECK)
 }
 
-// The payload where it lies in the packet; on a refusal nothing, and its number in `number`.
-pub fn decode<'a>(p: &'a [u8], number: &mut u8) -> &'a [u8]
-    ensures { (number.new ≡ why (decode_packet p.now)) × (result.now ≡ part (decode_packet p.now)) }
+// The payload where it lies in the packet.
+pub fn decode(p: &[u8]) -> Result<&[u8], Refusal>
+    ensures { part_read result ≡ decode_packet p.now }
 {
     if p.len() < 1 + CHECK {
-        *number = codec::SIZE;
-        return &p[0..0];
+        return Err(Refusal::Size);
     }
     if p.len() > PAYLOAD + CHECK {
-        *number = codec::SIZE;
-        return &p[0..0];
+        return Err(Refusal::Size);
     }
-    let n = p.len() - CHECK;
-    if codec::word32(&p[n..]) != crc::crc16(&p[0..n]) as u32 {
-        *number = codec::WRONG;
-        return &p[0..0];
+    let (payload, check) = p.split_at(p.len() - CHECK);
+    if codec::word32(check) != crc::crc16(payload) as u32 {
+        return Err(Refusal::Wrong);
     }
-    *number = 0;
-    &p[0..n]
+    Ok(payload)
 }

@@ -13,7 +13,7 @@ use Rattle.crc.specs.Bits.{bits, number, bits_of, Bytes}
 use Rattle.crc.specs.Crc.{crc, poly7}
 use Rattle.crc.specs.Detection.{same}
 use Rattle.codec.specs.Answer.{done, refused, SIZE, WRONG, encoding}
-use Rattle.codec.specs.declared.Encoded.TheVariants.{Wrote}
+use Rattle.std.specs.Prelude.{Ok}
 use Rattle.codec.specs.Layout.{field, width, judged}
 use Rattle.codec.specs.Format.{right, ended}
 use Rattle.codec.proofs.Words.{right-ended}
@@ -37,7 +37,7 @@ copy-register vs out mid l h e =
     ∙ append-nil vs
 
 pub encode-register : (vs out mid : List ℕ) → length vs ≡ 16 → 17 ≤ length out → mid ≡ vs
-    → encoding (Wrote 17) (put_mid 1 16 (set out 0 63) mid) ≡ encode_r2 vs out
+    → encoding (Ok 17) (put_mid 1 16 (set out 0 63) mid) ≡ encode_r2 vs out
 unfolding encode_r2
 encode-register vs out mid l h m =
     emitted 17 (r2_bytes vs) (put_mid 1 16 (set out 0 63) mid) out (ap suc l)

@@ -10,14 +10,16 @@ use lib.Dec.{eqb, ltb}
 use lib.ListN.{length, get_or, take, drop}
 use Rattle.crc.specs.Bits.{bits, bits_of, Bytes}
 use Rattle.crc.specs.Detection.{same}
+use Rattle.codec.specs.Answer.{outcome_of}
 use Rattle.codec.specs.Layout.{Slot, field, fixed, width, write, read, judged, fits}
 use Rattle.codec.specs.Format.{encode, decode, image, ended, bare, crc7_from}
 use Rattle.codec.proofs.Bits.{bits_of-last, test_eq, both}
 use Rattle.codec.proofs.Words.{within, judged_in, read_word, judged-word, right-bare}
 use Rattle.wire_frame.specs.Frame.{closing, frame, encode_frame, whole, read_frame, frame_read}
-use Rattle.wire_frame.specs.declared.frame.FrameRead.{FrameRead}
+use Rattle.std.specs.Prelude.{Result}
+use Rattle.codec.specs.declared.Refusal.{Refusal}
 use Rattle.wire_response.specs.Response.{response, short, r3}
-use Rattle.wire_frame.proofs.Frames.{content, bits_of-first, bits_of-content, read-content, same-last, turned, turned-read, decode-frame, encode-framed, image-frame, right-frame}
+use Rattle.wire_frame.proofs.Frames.{content, bits_of-first, bits_of-content, read-content, same-last, turned, turned-read, turned-same, outcome-turned, decode-frame, encode-framed, image-frame, right-frame}
 
 -- ---- the first byte
 
@@ -68,6 +70,16 @@ module _ (index : ℕ) (rest : List Slot) (s : List ℕ) where
   unfolding width within
   read-index h = ap (read (response index rest)) (bits_of-first s h) ∙ read_word (response index []) rest (get_or s 0 0) (bits_of (drop 1 s))
 
+-- what was read, as the value of one field
+pub read_one : (checked : Bool) (index : ℕ) (s : List ℕ) (r : Result ℕ Refusal) → frame_read r ≡ read_frame checked index s
+    → outcome_of (λ (w : ℕ). w ∷ []) r ≡ turned (within (field 32 ∷ []) 32) (frame_read r)
+unfolding within
+read_one checked index s r e =
+    outcome-turned (λ (w : ℕ). w ∷ []) r
+    ∙ ap (turned (λ (w : ℕ). w ∷ [])) e
+    ∙ turned-same (λ (w : ℕ). w ∷ []) (within (field 32 ∷ []) 32) checked index s (λ w h. ap (λ (x : ℕ). x ∷ []) (omega arith))
+    ∙ ap (turned (within (field 32 ∷ []) 32)) (sym e)
+
 -- ---- with a CRC7
 
 module _ (index : ℕ) (rest : List Slot) where
@@ -88,7 +100,7 @@ module _ (index : ℕ) (rest : List Slot) where
       ∙ read-content rest [] s hw l
       ∙ append-nil (within rest 32 (content s)))
 
-  pub read_short : (s : List ℕ) → Bytes s → width rest ≡ 32 → ((bs : List Bool) → judged rest bs ≡ true) → (r q : FrameRead) → r ≡ q
+  pub read_short : (s : List ℕ) → Bytes s → width rest ≡ 32 → ((bs : List Bool) → judged rest bs ≡ true) → (r q : Result ℕ Refusal) → r ≡ q
       → frame_read r ≡ read_frame true index s → turned (within rest 32) (frame_read q) ≡ decode (short index rest) s
   read_short s b hw plain r q p e =
       turned-read (within rest 32) r q (read_frame true index s) (decode (short index rest) s) p e (decode-short s b hw plain)
@@ -143,7 +155,7 @@ decode-ones s b =
     ∙ sym (same-last false s 255 l b (omega arith) refl)))
     (λ l. read-index 63 rest s (omega arith) ∙ read-content (field 32 ∷ []) ones s refl l)
 
-pub read-ones : (s : List ℕ) → Bytes s → (r q : FrameRead) → r ≡ q
+pub read-ones : (s : List ℕ) → Bytes s → (r q : Result ℕ Refusal) → r ≡ q
     → frame_read r ≡ read_frame false 63 s → turned (within (field 32 ∷ []) 32) (frame_read q) ≡ decode r3 s
 read-ones s b r q p e =
     turned-read (within (field 32 ∷ []) 32) r q (read_frame false 63 s) (decode r3 s) p e (decode-ones s b)

@@ -1,23 +1,18 @@
 -- The decoders' answers: the fields' values in the slots' order, or the refusal's number.
-use Rattle.std.specs.Prelude.{List, [], ◌∷◌, ℕ}
-use Rattle.codec.specs.Answer.{Outcome, done, refused}
-use Rattle.wire_response_decode.specs.declared.R1Read.{R1Read}
-use Rattle.wire_response_decode.specs.declared.R3Read.{R3Read}
-use Rattle.wire_response_decode.specs.declared.R6Read.{R6Read}
-use Rattle.wire_response_decode.specs.declared.R7Read.{R7Read}
+use Rattle.std.specs.Prelude.{List, [], ◌∷◌, ℕ, Result}
+use Rattle.codec.specs.declared.Refusal.{Refusal}
+use Rattle.codec.specs.Answer.{Outcome, outcome_of}
+use Rattle.wire_response_decode.specs.declared.Published.{Published}
+use Rattle.wire_response_decode.specs.declared.Echo.{Echo}
 
-abbrev pub r1_read : R1Read → Outcome (List ℕ)
-r1_read (R1Read.Status s) = done (s ∷ [])
-r1_read (R1Read.Refused k) = refused k
+abbrev pub r1_read : Result ℕ Refusal → Outcome (List ℕ)
+r1_read = outcome_of (λ status. status ∷ [])
 
-abbrev pub r3_read : R3Read → Outcome (List ℕ)
-r3_read (R3Read.Ocr o) = done (o ∷ [])
-r3_read (R3Read.Refused k) = refused k
+abbrev pub r3_read : Result ℕ Refusal → Outcome (List ℕ)
+r3_read = outcome_of (λ ocr. ocr ∷ [])
 
-abbrev pub r6_read : R6Read → Outcome (List ℕ)
-r6_read (R6Read.Published a s) = done (a ∷ s ∷ [])
-r6_read (R6Read.Refused k) = refused k
+abbrev pub r6_read : Result Published Refusal → Outcome (List ℕ)
+r6_read = outcome_of (λ r6. r6.rca ∷ r6.status ∷ [])
 
-abbrev pub r7_read : R7Read → Outcome (List ℕ)
-r7_read (R7Read.Echo v p) = done (v ∷ p ∷ [])
-r7_read (R7Read.Refused k) = refused k
+abbrev pub r7_read : Result Echo Refusal → Outcome (List ℕ)
+r7_read = outcome_of (λ r7. r7.voltage ∷ r7.pattern ∷ [])

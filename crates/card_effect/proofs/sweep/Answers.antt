@@ -9,43 +9,33 @@ use Rattle.card.specs.Effects.{swept}
 use Rattle.card_effect.proofs.Sweeps.{swept-more, swept-end}
 use Rattle.card_effect.proofs.sweep.Goals as goal
 
-pub returns-then-memory-behind : goal.returns-then-memory-behind
-returns-then-memory-behind c = simp (lt-leb _ _ c.if-memory-behind.true)
-
 pub loop-block-init : goal.loop-block-init
 loop-block-init c =
     let a = c.args in
     let e : a.first + a.count - a.first ≡ a.count = omega arith in
-    (refl, omega arith, c.if-memory-behind.false, refl, ap (λ (k : ℕ). swept a.all a.marks.now a.first k a.memory.now) e)
+    (refl, c.if-memory-behind.false, refl, ap (λ (k : ℕ). swept a.all a.marks.now a.first k a.memory.now) e)
 
 pub sweep_block-requires : goal.sweep_block-requires
 sweep_block-requires c = (omega arith, omega arith)
-
-pub overflow_add-block : goal.overflow_add-block
-overflow_add-block c = omega arith
-
-pub loop-block-smaller : goal.loop-block-smaller
-loop-block-smaller c = omega arith
 
 pub loop-block-preserved : goal.loop-block-preserved
 loop-block-preserved c =
     let at = c.loop-block in
     let a = c.args in (
       at.invariant.0,
-      omega arith,
-      at.invariant.2,
-      c.memory-1.given ∙ at.invariant.3,
+      at.invariant.1,
+      c.memory-1.given ∙ at.invariant.2,
       ap (swept a.all a.marks.now (at.block + 1) _) c.sweep_block.ensures
           ∙ sym (swept-more a.all a.marks.now at.block _ at.memory c.loop-block-test.true)
-          ∙ at.invariant.4,
+          ∙ at.invariant.3,
     )
 
 pub shape_of-memory : goal.shape_of-memory
-shape_of-memory c = c.loop-block.invariant.3
+shape_of-memory c = c.loop-block.invariant.2
 
 pub returns : goal.returns
 returns c =
     let at = c.loop-block in
     let a = c.args in
     rw (le-leb ((a.first + a.count) * BLOCK) (length a.memory.now) c.if-memory-behind.false)
-    (sym (swept-end a.all a.marks.now at.block _ at.memory c.loop-block-test.false) ∙ at.invariant.4)
+    (sym (swept-end a.all a.marks.now at.block _ at.memory c.loop-block-test.false) ∙ at.invariant.3)

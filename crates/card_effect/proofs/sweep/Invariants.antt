@@ -7,8 +7,5 @@ use Rattle.card.specs.Effects.{swept}
 use Rattle.card_effect.proofs.sweep.Given as goal
 
 abbrev pub invariant-loop-block : goal.invariant-loop-block
-invariant-loop-block l = (l.behind ≡ l.first + l.count) × (l.block ≤ l.behind) × (l.behind * BLOCK ≤ length l.initial.memory) × (length l.memory ≡ length l.initial.memory)
+invariant-loop-block l = (l.behind ≡ l.first + l.count) × (l.behind * BLOCK ≤ length l.initial.memory) × (length l.memory ≡ length l.initial.memory)
     × (swept l.all l.marks l.block (l.behind - l.block) l.memory ≡ swept l.all l.marks l.first l.count l.initial.memory)
-
-abbrev pub decreases-loop-block : goal.decreases-loop-block
-decreases-loop-block l = l.behind - l.block

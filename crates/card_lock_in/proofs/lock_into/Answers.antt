@@ -13,9 +13,9 @@ returns-then-right c =
     let args = test.args in
     c.operate.ensures ∙ ap (λ (b : Bool). lock_turned args.card b args.payload.now args.memory.now) (sym test.if-right.true)
 
-pub returns : goal.returns
+pub returns-else-right : goal.returns-else-right
 unfolding lock_into password_into
-returns c =
+returns-else-right c =
     let test = c in
     let args = test.args in
     Turns.rejected c.answered.result _ _ _ c.with_state.ensures refl _ _ c.answered.ensures

@@ -26,19 +26,15 @@ rows_with memory p size good = record {
   settings = not (good && leb p.length PASSWORD);
 }
 
-pub returns-then-n-ne0 : goal.returns-then-n-ne0
+pub returns-in-Err : goal.returns-in-Err
 unfolding step powered_up
-returns-then-n-ne0 c =
-    let allowed = c in
-    let args = allowed.args in
-    refuses _ _ _ _ c.refusal-n.ensures (ap₂ (rows_with (length args.memory.now) args.password) allowed.capacity.ensures allowed.allowed.ensures)
-    _ _ _ _ _ c.if-n-ne0.true c.refused.ensures
+returns-in-Err c =
+    refuses _ _ _ _ c.check.ensures (ap₂ (rows_with (length c.args.memory.now) c.args.password) c.capacity.ensures c.allowed.ensures)
+    _ _ _ _ _ c.in-Err.is c.refused.ensures
 
 pub returns : goal.returns
 unfolding step powered_up
 returns c =
-    let allowed = c in
-    let args = allowed.args in
-    runs _ _ _ _ c.refusal-n.ensures (ap₂ (rows_with (length args.memory.now) args.password) allowed.capacity.ensures allowed.allowed.ensures)
-    _ _ _ _ _ c.if-n-ne0.false
-    (ap (λ (k : Card). returned (record { answer = Over; card = k }) args.memory.now []) c.start.ensures)
+    runs _ _ _ _ c.check.ensures (ap₂ (rows_with (length c.args.memory.now) c.args.password) c.capacity.ensures c.allowed.ensures)
+    _ _ _ _ _ c.in_default.is
+    (ap (λ (k : Card). returned (record { answer = Over; card = k }) c.args.memory.now []) c.start.ensures)

@@ -10,31 +10,19 @@ pub loop-block-init : goal.loop-block-init
 loop-block-init c =
     let a = c.args in
     let e : a.first + a.count - a.first ≡ a.count = omega arith in
-    (refl, omega arith, ap (any_guarded a.all a.marks.now a.first) e)
-
-pub guarded_block-requires : goal.guarded_block-requires
-guarded_block-requires c = omega arith
+    (refl, ap (any_guarded a.all a.marks.now a.first) e)
 
 pub returns-then-guarded_block : goal.returns-then-guarded_block
 returns-then-guarded_block c =
     let at = c.loop-block in
-    sym (any_one _ _ at.block _ c.loop-block-test.true (sym c.guarded_block.ensures ∙ c.if-guarded_block.true)) ∙ at.invariant.2
-
-pub overflow_add-block : goal.overflow_add-block
-overflow_add-block c = omega arith
-
-pub loop-block-smaller : goal.loop-block-smaller
-loop-block-smaller c = omega arith
+    sym (any_one _ _ at.block _ c.loop-block-test.true (sym c.guarded_block.ensures ∙ c.if-guarded_block.true)) ∙ at.invariant.1
 
 pub loop-block-preserved : goal.loop-block-preserved
 loop-block-preserved c =
-    let at = c.loop-block in (
-      at.invariant.0,
-      omega arith,
-      sym (any_none _ _ at.block _ c.loop-block-test.true (sym c.guarded_block.ensures ∙ c.if-guarded_block.false)) ∙ at.invariant.2,
-    )
+    let at = c.loop-block in
+    (at.invariant.0, sym (any_none _ _ at.block _ c.loop-block-test.true (sym c.guarded_block.ensures ∙ c.if-guarded_block.false)) ∙ at.invariant.1)
 
 pub returns : goal.returns
 returns c =
     let at = c.loop-block in
-    sym (any_end _ _ at.block _ c.loop-block-test.false) ∙ at.invariant.2
+    sym (any_end _ _ at.block _ c.loop-block-test.false) ∙ at.invariant.1

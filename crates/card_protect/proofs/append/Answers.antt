@@ -5,5 +5,5 @@ use Rattle.card_protect.proofs.append.Goals as goal
 pub returns-then-value : goal.returns-then-value
 returns-then-value = (λ c j h. rw c.if-value.true (appended_one j c.args.word h))
 
-pub returns : goal.returns
-returns = (λ c j h. rw c.if-value.false (appended-zero j c.args.word h))
+pub returns-else-value : goal.returns-else-value
+returns-else-value = (λ c j h. rw c.if-value.false (appended-zero j c.args.word h))

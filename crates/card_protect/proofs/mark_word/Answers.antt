@@ -9,12 +9,6 @@ pub loop-k-init : goal.loop-k-init
 unfolding bits
 loop-k-init c = (omega arith, c.groups-count.ensures, c.group_of-group.ensures, refl)
 
-pub overflow_add-group : goal.overflow_add-group
-overflow_add-group c = omega arith
-
-pub loop-k-smaller : goal.loop-k-smaller
-loop-k-smaller c = omega arith
-
 pub loop-k-preserved : goal.loop-k-preserved
 loop-k-preserved c =
     let at = c.loop-k in (

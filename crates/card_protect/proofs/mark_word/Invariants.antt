@@ -10,6 +10,3 @@ use Rattle.card_protect.proofs.mark_word.Given as goal
 abbrev pub invariant-loop-k : goal.invariant-loop-k
 invariant-loop-k l = (l.k ≤ 32) × (l.count ≡ (l.blocks + (GROUP - 1)) / GROUP) × (l.group ≡ group_of l.address)
     × (bits (32 - l.k) l.word ++ mark_bits l.count l.marks l.group l.k ≡ mark_bits l.count l.marks l.group 32)
-
-abbrev pub decreases-loop-k : goal.decreases-loop-k
-decreases-loop-k l = l.k

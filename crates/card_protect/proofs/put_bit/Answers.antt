@@ -2,16 +2,11 @@
 use mathlib.Core.Path.{sym, ap, ◌∙◌}
 use mathlib.Core.Bool.{Bool, not}
 use Rattle.card.specs.Protect.{put_bit}
-use Rattle.card_protect.proofs.Marks.{put_same, put-flipped, beq_same, beq-other}
+use Rattle.card_protect.proofs.Marks.{put-flipped, beq-other}
 use Rattle.card_protect.proofs.put_bit.Goals as goal
 
-pub returns-then-bit-value : goal.returns-then-bit-value
-returns-then-bit-value c =
-    let a = c.args in
-    put_same a.k a.byte ∙ ap (λ (v : Bool). put_bit v a.k a.byte) (sym (beq_same c.bit.result a.value c.if-bit-value.true ∙ c.bit.ensures))
-
-pub returns : goal.returns
-returns c =
+pub returns-else-bit-value : goal.returns-else-bit-value
+returns-else-bit-value c =
     let a = c.args in
     put-flipped a.k a.byte c.requires
     ∙ ap (λ (v : Bool). put_bit v a.k a.byte) (sym (beq-other c.bit.result a.value c.if-bit-value.false ∙ ap not c.bit.ensures))

@@ -1,6 +1,6 @@
 -- R1, and one byte or four behind it.
 use Rattle.std.proofs.Common.{ℕ, suc, List, ◌∷◌, ◌++◌, length, drop, sym, refl, ap, ◌∙◌, arith, length-set}
-use Rattle.crc.specs.Bits.{bits}
+use Rattle.crc.specs.Bits.{bits, bytes}
 use Rattle.crc.proofs.Bits.{length-bytes}
 use Rattle.wire_frame.proofs.Frames.{stored, put-content, length-stored}
 use Rattle.card_respond.proofs.Sending.{r1-alone, r1-second, sends-spi}

@@ -1,9 +1,11 @@
 -- Four bytes, high byte first.
+use mathlib.Core.Path.{ap, ◌∙◌}
+use Prim.Native.Nat.{ℕ}
+use Rattle.crc.specs.Bits.{bits, bytes}
 use Rattle.card_send.proofs.Sent.{same_as}
 use Rattle.card_send.proofs.send_word.Goals as goal
 
 pub returns : goal.returns
 returns c memory =
-    let made = c in
-    let send = c.send in
-    same_as send.result made.args.card _ _ _ _ _ _ (send.ensures memory) made.put32.ensures
+    same_as c.send.result c.args.card _ _ _ _ _ _ (c.send.ensures memory)
+    c.put32.ensures

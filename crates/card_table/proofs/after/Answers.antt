@@ -5,20 +5,18 @@ use Rattle.card_table.proofs.after.Goals as goal
 
 pub returns-then-to-eq-NONE : goal.returns-then-to-eq-NONE
 returns-then-to-eq-NONE c =
-    let at = c in
-    let a = at.args in
+    let a = c.args in
     rw (
-      ← after_by a.command a.bus _ _ _ at.in_spi-spi.ensures at.number_in-from.ensures.0 at.lead-to.ensures a.t,
+      ← after_by a.command a.bus _ _ _ c.in_spi-spi.ensures c.number_in-from.ensures.0 c.lead-to.ensures a.t,
       eq-eqb _ _ c.if-to-eq-NONE.true,
     )
     c.arrive.ensures
 
-pub returns : goal.returns
-returns c =
-    let at = c in
-    let a = at.args in
+pub returns-else-to-eq-NONE : goal.returns-else-to-eq-NONE
+returns-else-to-eq-NONE c =
+    let a = c.args in
     rw (
-      ← after_by a.command a.bus _ _ _ at.in_spi-spi.ensures at.number_in-from.ensures.0 at.lead-to.ensures a.t,
+      ← after_by a.command a.bus _ _ _ c.in_spi-spi.ensures c.number_in-from.ensures.0 c.lead-to.ensures a.t,
       ne_eqb _ _ c.if-to-eq-NONE.false,
     )
-    c.arrive-2.ensures
+    c.arrive-else-to-eq-NONE.ensures

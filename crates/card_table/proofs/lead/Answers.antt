@@ -10,8 +10,8 @@ returns-then-spi c =
     rw c.if-spi.true
     (c.digit.ensures ∙ digit_in a.command true _ a.from c.row-found.ensures c.requires)
 
-pub returns : goal.returns
-returns c =
+pub returns-else-spi : goal.returns-else-spi
+returns-else-spi c =
     let a = c.args in
     rw c.if-spi.false
-    (c.digit-2.ensures ∙ digit_in a.command false _ a.from c.row-found.ensures c.requires)
+    (c.digit-else-spi.ensures ∙ digit_in a.command false _ a.from c.row-found.ensures c.requires)

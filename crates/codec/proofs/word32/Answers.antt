@@ -1,19 +1,11 @@
 -- `word32` reads a big-endian number: at the loop's head it has the bytes that were passed.
-use native.Mathlib.Omega.{arith}
-use Rattle.codec.proofs.Bytes.{passed_none, passed-more, passed_all}
+use Rattle.codec.proofs.Bytes.{passed_none, passed-more}
 use Rattle.codec.proofs.word32.Goals as goal
 
-pub loop-i-init : goal.loop-i-init
-loop-i-init c = passed_none 24 c.args.s.now
+pub loop-byte-init : goal.loop-byte-init
+loop-byte-init c = passed_none 24 c.args.s.now
 
-pub overflow_cast-r : goal.overflow_cast-r
-overflow_cast-r c = omega (arith, c.type_inv.s c.loop-i.i)
-
-pub loop-i-preserved : goal.loop-i-preserved
-loop-i-preserved c =
-    let at = c.loop-i in
-    passed-more 24 c.args.s.now at.r at.i c.loop-i-test.true
-    (c.type_inv.s at.i).fits at.invariant
-
-pub returns : goal.returns
-returns c = passed_all 24 c.args.s.now _ _ c.loop-i-test.false c.loop-i.invariant
+pub loop-byte-preserved : goal.loop-byte-preserved
+loop-byte-preserved c =
+    let at = c.loop-byte in
+    rw c.from.ensures (passed-more 24 c.args.s.now at.r at.byte-index c.loop-byte-test.true (c.type_inv.s at.byte-index).fits at.invariant)

@@ -9,28 +9,28 @@ use Rattle.crc.specs.Crc.{crc, poly16, crc16_of}
 use Rattle.crc.proofs.Words.{byte-fed, moved, all-fed}
 use Rattle.crc.proofs.crc16.Goals as goal
 
-pub loop-i-init : goal.loop-i-init
+pub loop-byte-init : goal.loop-byte-init
 unfolding crc poly16 bits
-loop-i-init c = (omega arith, omega arith, refl)
+loop-byte-init c = (omega arith, omega arith, refl)
 
-pub overflow_cast-s : goal.overflow_cast-s
-overflow_cast-s c = omega (arith, c.type_inv.s c.loop-i.i)
+pub overflow_cast-byte : goal.overflow_cast-byte
+overflow_cast-byte c = omega (arith, c.type_inv.s c.loop-byte.byte-index)
 
-pub loop-i-preserved : goal.loop-i-preserved
+pub loop-byte-preserved : goal.loop-byte-preserved
 unfolding poly16 bits
-loop-i-preserved c =
+loop-byte-preserved c =
     let s = c.args.s.now in
-    let at = c.loop-i in
-    let b = get_or s at.i 0 in (
+    let at = c.loop-byte in
+    let b = get_or s at.byte-index 0 in (
       omega arith,
       search rules,
-      byte-fed 16 poly16 s at.i at.r (b * 2 ^ 8 % 2 ^ 16) c.turn-r.result (crc poly16 (bits_of s))
-          refl (omega arith) c.loop-i-test.true (moved 8 8 b) c.turn-r.ensures at.invariant.2,
+      byte-fed 16 poly16 s at.byte-index at.r (b * 2 ^ 8 % 2 ^ 16) c.turn-r.result (crc poly16 (bits_of s))
+          refl (omega arith) c.loop-byte-test.true (moved 8 8 b) c.turn-r.ensures at.invariant.2,
     )
 
 pub returns : goal.returns
 unfolding crc16_of
 returns c =
     let s = c.args.s.now in
-    let at = c.loop-i in
-    all-fed 16 poly16 s at.i at.r (crc poly16 (bits_of s)) at.invariant.1 c.loop-i-test.false at.invariant.2
+    let at = c.loop-byte in
+    all-fed 16 poly16 s at.byte-index at.r (crc poly16 (bits_of s)) at.invariant.1 c.loop-byte-test.false at.invariant.2

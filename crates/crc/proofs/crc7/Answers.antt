@@ -16,29 +16,29 @@ use Rattle.crc.proofs.crc7.Goals as goal
 abbrev up7 : List Bool
 up7 = poly7 ++ (false ∷ [])
 
-pub loop-i-init : goal.loop-i-init
+pub loop-byte-init : goal.loop-byte-init
 unfolding crc poly7 bits
-loop-i-init c = (omega arith, omega arith, run_up poly7 (clear poly7) _ refl (omega arith))
+loop-byte-init c = (omega arith, omega arith, run_up poly7 (clear poly7) _ refl (omega arith))
 
-pub loop-i-preserved : goal.loop-i-preserved
+pub loop-byte-preserved : goal.loop-byte-preserved
 unfolding poly7 bits
-loop-i-preserved c =
+loop-byte-preserved c =
     let s = c.args.s.now in
-    let at = c.loop-i in
-    let b = get_or s at.i 0 in (
+    let at = c.loop-byte in
+    let b = get_or s at.byte-index 0 in (
       omega arith,
       search rules,
-      byte-fed 8 up7 s at.i at.r b c.turn7-r.result (crc poly7 (bits_of s) ++ (false ∷ []))
-          refl (omega arith) c.loop-i-test.true (sym (append-nil (bits 8 b))) c.turn7-r.ensures at.invariant.2,
+      byte-fed 8 up7 s at.byte-index at.r b c.turn7-r.result (crc poly7 (bits_of s) ++ (false ∷ []))
+          refl (omega arith) c.loop-byte-test.true (sym (append-nil (bits 8 b))) c.turn7-r.ensures at.invariant.2,
     )
 
 pub returns : goal.returns
 unfolding crc7_of number
 returns c =
     let s = c.args.s.now in
-    let at = c.loop-i in
+    let at = c.loop-byte in
     let whole = crc poly7 (bits_of s) in
     let e : at.r ≡ number (whole ++ (false ∷ [])) =
-    all-fed 8 up7 s at.i at.r (whole ++ (false ∷ [])) at.invariant.1 c.loop-i-test.false at.invariant.2 in
+    all-fed 8 up7 s at.byte-index at.r (whole ++ (false ∷ [])) at.invariant.1 c.loop-byte-test.false at.invariant.2 in
     let n : number (whole ++ (false ∷ [])) ≡ number whole * 2 = number_append whole (false ∷ []) ∙ omega arith in
     omega arith

@@ -2,7 +2,7 @@
 use mathlib.Core.Path.{◌≡◌}
 use mathlib.Core.Bool.{Bool, false}
 use mathlib.Core.List.{List, [], ◌∷◌, ◌++◌}
-use Prim.Native.Nat.{◌^◌, ◌-◌, ◌≤◌, ◌<◌}
+use Prim.Native.Nat.{◌^◌, ◌≤◌, ◌<◌}
 use lib.ListN.{length, drop}
 use Rattle.crc.specs.Bits.{bits, bits_of}
 use Rattle.crc.specs.Crc.{run, crc, poly7}
@@ -12,8 +12,5 @@ use Rattle.crc.proofs.crc7.Given as goal
 abbrev up7 : List Bool
 up7 = poly7 ++ (false ∷ [])
 
-abbrev pub invariant-loop-i : goal.invariant-loop-i
-invariant-loop-i l = (l.i ≤ length l.s) × (l.r < 2 ^ 8) × (run up7 (bits 8 l.r) (bits_of (drop l.i l.s)) ≡ crc poly7 (bits_of l.s) ++ (false ∷ []))
-
-abbrev pub decreases-loop-i : goal.decreases-loop-i
-decreases-loop-i l = length l.s - l.i
+abbrev pub invariant-loop-byte : goal.invariant-loop-byte
+invariant-loop-byte l = (l.byte-index ≤ length l.s) × (l.r < 2 ^ 8) × (run up7 (bits 8 l.r) (bits_of (drop l.byte-index l.s)) ≡ crc poly7 (bits_of l.s) ++ (false ∷ []))

@@ -12,13 +12,13 @@ use Rattle.crc.proofs.turn7.Goals as goal
 abbrev up7 : List Bool
 up7 = poly7 ++ (false ∷ [])
 
-pub loop-k-init : goal.loop-k-init
-loop-k-init c = (omega arith, refl)
+pub loop-init : goal.loop-init
+loop-init c = (omega arith, refl)
 
-pub loop-k-preserved : goal.loop-k-preserved
-loop-k-preserved c =
-    let at = c.loop-k in
-    (omega arith, turn_more up7 8 at.k at.q c.shift7-q.result _ c.loop-k-test.true c.shift7-q.ensures at.invariant.1)
+pub loop-preserved : goal.loop-preserved
+loop-preserved c =
+    let at = c.loop in
+    (omega arith, turn_more up7 8 at.counter at.q c.shift7-q.result _ c.loop-test.true c.shift7-q.ensures at.invariant.1)
 
 pub returns : goal.returns
-returns c = turns-none up7 c.loop-k.k (bits 8 c.loop-k.q) _ c.loop-k-test.false c.loop-k.invariant.1
+returns c = turns-none up7 c.loop.counter (bits 8 c.loop.q) _ c.loop-test.false c.loop.invariant.1

@@ -11,8 +11,5 @@ use Rattle.crc.proofs.turn7.Given as goal
 abbrev up7 : List Bool
 up7 = poly7 ++ (false ∷ [])
 
-abbrev pub invariant-loop-k : goal.invariant-loop-k
-invariant-loop-k l = (l.k ≤ 8) × (turns up7 (8 - l.k) (bits 8 l.q) ≡ turns up7 8 (bits 8 l.r))
-
-abbrev pub decreases-loop-k : goal.decreases-loop-k
-decreases-loop-k l = 8 - l.k
+abbrev pub invariant-loop : goal.invariant-loop
+invariant-loop l = (l.counter ≤ 8) × (turns up7 (8 - l.counter) (bits 8 l.q) ≡ turns up7 8 (bits 8 l.r))

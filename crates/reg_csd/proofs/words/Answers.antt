@@ -29,28 +29,14 @@ parts c =
     ∙ ap (λ (x : List Bool). write (take 12 csd_slots) (take 10 vs) ++ (bits 12 c.c_size ++ x))
     (write_append (take 9 (drop 13 csd_slots)) (drop 22 csd_slots) (take 9 (drop 11 vs)) (drop 20 vs) [] refl)
 
-pub first-requires : goal.first-requires
-first-requires c = tt
-
-pub middle-requires : goal.middle-requires
-middle-requires c = tt
-
-pub last-requires : goal.last-requires
-last-requires c = tt
-
-pub join-requires : goal.join-requires
-join-requires c = tt
-
 pub returns : goal.returns
 returns c =
-    let f = c in
-    let at = f.args.c in
-    rw (parts at)
+    rw (parts c.args.c)
     (simp (
-      f.first.ensures,
+      c.first.ensures,
       join-bits 33 _ _ _ _ _ c.join.ensures (lit≤ tt),
       c.middle.ensures,
       c.last.ensures,
-      bits-split 10 2 at.c_size,
+      bits-split 10 2 c.args.c.c_size,
       append_assoc,
     ))

@@ -1,10 +1,8 @@
--- `size_pair` tries the multipliers in their order.
+-- `size_pair` tries the multipliers in their order: none of those passed gives the count.
+use mathlib.Core.Path.{◌≡◌}
 use Prim.Native.Nat.{◌-◌}
-use Rattle.reg_size.proofs.Search.{Passed}
+use Rattle.reg_size.specs.Size.{pair_from, size_pair}
 use Rattle.reg_size.proofs.size_pair.Given as goal
 
-abbrev pub invariant-loop-mult : goal.invariant-loop-mult
-invariant-loop-mult l = Passed l.blocks l.mult l.unit
-
-abbrev pub decreases-loop-mult : goal.decreases-loop-mult
-decreases-loop-mult l = 8 - l.mult
+abbrev pub invariant-loop-c_size_mult : goal.invariant-loop-c_size_mult
+invariant-loop-c_size_mult l = size_pair l.blocks ≡ pair_from l.blocks l.c_size_mult (8 - l.c_size_mult)

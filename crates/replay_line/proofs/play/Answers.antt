@@ -1,33 +1,22 @@
--- By the word of the line.
+-- By what the line asks for.
 use mathlib.Core.Path.{sym}
-use borrow.Author.Rules.{rules}
 use Rattle.replay_line.proofs.Asked.{no_room, by_word, cmd-line, blk-line, take-line, over-line, bad-line}
 use Rattle.replay_line.proofs.play.Goals as goal
 
-pub returns-then-text-lt1035 : goal.returns-then-text-lt1035
-returns-then-text-lt1035 c = sym (no_room _ _ _ c.if-text-lt1035.true)
+pub returns-then-text-lt-ROOM : goal.returns-then-text-lt-ROOM
+returns-then-text-lt-ROOM c = sym (no_room _ _ _ c.if-text-lt-ROOM.true)
 
-pub returns-in-Cmd : goal.returns-in-Cmd
-returns-in-Cmd c =
-    let read = c.read-input in
-    by_word _ _ _ read.result c.if-text-lt1035.false read.ensures _ _ (cmd-line _ read.result _ c.in-Cmd.is c.front.ensures) c.command.ensures
+pub returns-in-Some-Cmd : goal.returns-in-Some-Cmd
+returns-in-Some-Cmd c = by_word _ _ _ _ c.if-text-lt-ROOM.false (rw c.in-Some-Cmd.field-0-is at c.in-Some-Cmd.ensures) _ _ (cmd-line _ _) c.command.ensures
 
-pub returns-in-Blk : goal.returns-in-Blk
-returns-in-Blk c =
-    let read = c.read-input in
-    by_word _ _ _ read.result c.if-text-lt1035.false read.ensures _ _ (blk-line _ read.result c.in-Blk.is) c.block.ensures
+pub returns-in-Some-Blk : goal.returns-in-Some-Blk
+returns-in-Some-Blk c = by_word _ _ _ _ c.if-text-lt-ROOM.false (rw c.in-Some-Blk.field-0-is at c.in-Some-Blk.ensures) _ _ (blk-line _ _) c.block.ensures
 
-pub returns-in-Take : goal.returns-in-Take
-returns-in-Take c =
-    let read = c.read-input in
-    by_word _ _ _ read.result c.if-text-lt1035.false read.ensures _ _ (take-line _ read.result c.in-Take.is) c.take.ensures
+pub returns-in-Some-Take : goal.returns-in-Some-Take
+returns-in-Some-Take c = by_word _ _ _ _ c.if-text-lt-ROOM.false (rw c.in-Some-Take.field-0-is at c.in-Some-Take.ensures) _ _ (take-line _) c.take.ensures
 
-pub returns-in-Over : goal.returns-in-Over
-returns-in-Over c =
-    let read = c.read-input in
-    by_word _ _ _ read.result c.if-text-lt1035.false read.ensures _ _ (over-line _ read.result c.in-Over.is) c.over.ensures
+pub returns-in-Some-Over : goal.returns-in-Some-Over
+returns-in-Some-Over c = by_word _ _ _ _ c.if-text-lt-ROOM.false (rw c.in-Some-Over.field-0-is at c.in-Some-Over.ensures) _ _ (over-line _) c.over.ensures
 
-pub returns-in-Unreadable : goal.returns-in-Unreadable
-returns-in-Unreadable c =
-    let read = c.read-input in
-    by_word _ _ _ read.result c.if-text-lt1035.false read.ensures _ _ (bad-line _ read.result c.in-Unreadable.is) (c.unreadable.ensures _)
+pub returns-in-None : goal.returns-in-None
+returns-in-None c = by_word _ _ _ _ c.if-text-lt-ROOM.false c.in-None.ensures _ _ (bad-line _) (c.unreadable.ensures _)

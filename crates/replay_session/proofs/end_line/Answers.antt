@@ -5,7 +5,5 @@ use Rattle.replay_session.proofs.end_line.Goals as goal
 
 pub returns : goal.returns
 returns c =
-    let entry = c in
-    let place = c.place-at in
-    let play = c.play-r in
-    line-ended entry.args.s _ _ entry.args.text.now _ _ _ place.result play.result place.ensures.0 place.ensures.1 c.front.ensures play.ensures _ c.end.ensures
+    line-ended c.args.s _ _ c.args.text.now _ _ _ c.place-at.result c.play-played.result c.place-at.ensures.0 c.place-at.ensures.1 c.front.ensures c.play-played.ensures _
+    c.end.ensures

@@ -9,9 +9,6 @@ use Rattle.replay_session.specs.Session.{heard_all, session}
 use Rattle.replay_session.proofs.Heard.{ends-line, keeps_byte, next-byte, all-heard}
 use Rattle.replay_session.proofs.hear_all.Given as goal
 
-abbrev pub invariant-loop-i : goal.invariant-loop-i
-invariant-loop-i l = (l.i ≤ length l.chunk) × (length l.memory ≡ length l.initial.memory) × (length l.line ≡ length l.initial.line) × (length l.text ≡ length l.initial.text)
-    × (heard_all (session l.now l.memory l.line l.text) (drop l.i l.chunk) ≡ heard_all (session l.initial.now l.initial.memory l.initial.line l.initial.text) l.chunk)
-
-abbrev pub decreases-loop-i : goal.decreases-loop-i
-decreases-loop-i l = length l.chunk - l.i
+abbrev pub invariant-loop-byte : goal.invariant-loop-byte
+invariant-loop-byte l = (l.byte-index ≤ length l.chunk) × (length l.memory ≡ length l.initial.memory) × (length l.line ≡ length l.initial.line) × (length l.text ≡ length l.initial.text)
+    × (heard_all (session l.now l.memory l.line l.text) (drop l.byte-index l.chunk) ≡ heard_all (session l.initial.now l.initial.memory l.initial.line l.initial.text) l.chunk)

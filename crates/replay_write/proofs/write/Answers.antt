@@ -1,10 +1,11 @@
 -- `write` goes by the answer.
+use Rattle.std.proofs.Common.{inl, inr}
 use Rattle.replay_write.specs.Write.{written}
 use Rattle.replay_write.proofs.write.Goals as goal
 
 pub returns-in-Silence : goal.returns-in-Silence
 unfolding written
-returns-in-Silence c = simp c.in-Silence.is c.put.ensures
+returns-in-Silence c = elim c.in-Silence.is [ inl e ↦ simp e c.put.ensures | inr e ↦ simp e c.put.ensures ]
 
 pub returns-in-Sent : goal.returns-in-Sent
 unfolding written
@@ -19,10 +20,6 @@ returns-in-Accepted c = simp c.in-Accepted.is c.put-in-Accepted.ensures
 pub returns-in-Rejected : goal.returns-in-Rejected
 unfolding written
 returns-in-Rejected c = simp c.in-Rejected.is c.put-in-Rejected.ensures
-
-pub returns-in-Over : goal.returns-in-Over
-unfolding written
-returns-in-Over c = simp c.in-Over.is c.put-in-Over.ensures
 
 pub returns-in-Refused : goal.returns-in-Refused
 unfolding written

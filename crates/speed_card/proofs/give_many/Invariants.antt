@@ -10,10 +10,7 @@ use Rattle.speed_card.specs.Blocks.{more, many, again}
 use Rattle.speed_card.proofs.Runs.{all_left, less, none_left}
 use Rattle.speed_card.proofs.give_many.Given as goal
 
-abbrev pub invariant-loop-given : goal.invariant-loop-given
-invariant-loop-given l = (l.n ≤ l.given) × (l.given ≤ l.count) × (length l.memory ≡ length l.initial.memory)
-    × (more (again l.block) (l.count - l.given) (world l.now l.memory) [] l.n
+abbrev pub invariant-loop : goal.invariant-loop
+invariant-loop l = (l.n ≤ l.counter) × (l.counter ≤ l.count) × (length l.memory ≡ length l.initial.memory)
+    × (more (again l.block) (l.count - l.counter) (world l.now l.memory) [] l.n
     ≡ many (again l.block) l.count (world l.initial.now l.initial.memory) [])
-
-abbrev pub decreases-loop-given : goal.decreases-loop-given
-decreases-loop-given l = l.count - l.given

@@ -10,30 +10,21 @@ use Rattle.speed_card.specs.Blocks.{more, many}
 use Rattle.speed_card.proofs.Runs.{all_left, less, none_left}
 use Rattle.speed_card.proofs.take_many.Goals as goal
 
-pub loop-taken-init : goal.loop-taken-init
-loop-taken-init c = (omega arith, omega arith, refl, all_left take_block _ _ _)
+pub loop-init : goal.loop-init
+loop-init c = (omega arith, omega arith, refl, all_left take_block _ _ _)
 
-pub overflow_add-n : goal.overflow_add-n
-overflow_add-n c = omega arith
-
-pub overflow_add-taken : goal.overflow_add-taken
-overflow_add-taken c = omega arith
-
-pub loop-taken-smaller : goal.loop-taken-smaller
-loop-taken-smaller c = omega arith
-
-pub loop-taken-preserved : goal.loop-taken-preserved
-loop-taken-preserved c =
+pub loop-preserved : goal.loop-preserved
+loop-preserved c =
     let t = c in
     let head = t in (
       omega arith,
       omega arith,
-      c.out-1.given ∙ head.loop-taken.invariant.2,
-      less take_block _ _ _ _ _ _ t.take-s.result _ _ _ t.loop-taken-test.true t.take-s.ensures c.right-n.ensures.0 ∙ head.loop-taken.invariant.3,
+      c.out-1.given ∙ head.loop.invariant.2,
+      less take_block _ _ _ _ _ _ t.take-s.result _ _ _ t.loop-test.true t.take-s.ensures c.right-n.ensures.0 ∙ head.loop.invariant.3,
     )
 
 pub shape_of-out : goal.shape_of-out
-shape_of-out c = c.loop-taken.invariant.2
+shape_of-out c = c.loop.invariant.2
 
 pub returns : goal.returns
-returns c = none_left take_block _ _ _ _ _ c.loop-taken-test.false ∙ c.loop-taken.invariant.3
+returns c = none_left take_block _ _ _ _ _ c.loop-test.false ∙ c.loop.invariant.3

@@ -10,10 +10,7 @@ use Rattle.speed_card.specs.Blocks.{more, many}
 use Rattle.speed_card.proofs.Runs.{all_left, less, none_left}
 use Rattle.speed_card.proofs.take_many.Given as goal
 
-abbrev pub invariant-loop-taken : goal.invariant-loop-taken
-invariant-loop-taken l = (l.n ≤ l.taken) × (l.taken ≤ l.count) × (length l.out ≡ length l.initial.out)
-    × (more take_block (l.count - l.taken) (world l.now l.memory) l.out l.n
+abbrev pub invariant-loop : goal.invariant-loop
+invariant-loop l = (l.n ≤ l.counter) × (l.counter ≤ l.count) × (length l.out ≡ length l.initial.out)
+    × (more take_block (l.count - l.counter) (world l.now l.memory) l.out l.n
     ≡ many take_block l.count (world l.initial.now l.memory) l.initial.out)
-
-abbrev pub decreases-loop-taken : goal.decreases-loop-taken
-decreases-loop-taken l = l.count - l.taken

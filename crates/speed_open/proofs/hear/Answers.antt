@@ -5,4 +5,4 @@ use Rattle.speed_open.proofs.Frames.{world_of}
 use Rattle.speed_open.proofs.hear.Goals as goal
 
 pub returns : goal.returns
-returns c = ap world_of c.command_frame-s.ensures
+returns c = ap world_of c.command_frame.ensures

@@ -16,6 +16,6 @@ returns c =
     let none = c in
     let s = none in
     let memory = s.args.memory.now in
-    ap world_of c.power_up-s.ensures
+    ap world_of c.power_up.ensures
     ∙ ap₂ (λ (k : Card) (x : Settings). next (world k memory) (power_up x none.no_password.result)) s.unpowered.ensures s.settings.ensures
     ∙ ap (λ (p : Password). next (world unpowered memory) (power_up (settings (length memory)) p)) none.no_password.ensures

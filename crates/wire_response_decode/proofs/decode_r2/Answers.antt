@@ -1,22 +1,15 @@
 -- `decode_r2` judges the size, the first byte and the last, and hands back what is between.
-use mathlib.Core.Path.{◌≡◌, sym, ap}
-use mathlib.Core.List.{List}
-use Prim.Native.Nat.{ℕ}
-use Rattle.codec.specs.Answer.{Outcome, why, part}
+use mathlib.Core.Path.{sym}
 use Rattle.wire_response.proofs.Registers.{register-size, register-first, register-last, register-done}
 use Rattle.wire_response_decode.proofs.decode_r2.Goals as goal
 
--- the number and the part of an answer
-both : (o q : Outcome (List ℕ)) → o ≡ q → (why q ≡ why o) × (part q ≡ part o)
-both o q e = (sym (ap why e), sym (ap part e))
-
 pub returns-then-s-ne17 : goal.returns-then-s-ne17
-returns-then-s-ne17 c = both _ _ (register-size c.args.s.now c.if-s-ne17.true)
+returns-then-s-ne17 c = sym (register-size c.args.s.now c.if-s-ne17.true)
 
 pub returns-then-s-ne63 : goal.returns-then-s-ne63
 returns-then-s-ne63 c =
     let at = c in
-    both _ _
+    sym
     (register-first at.args.s.now at.if-s-ne17.false (λ i. (at.type_inv.s i).fits) c.if-s-ne63.true)
 
 pub returns-then-s-seal : goal.returns-then-s-seal
@@ -24,7 +17,7 @@ returns-then-s-seal c =
     let seal = c.seal in
     let at = c in
     let s = at.args.s.now in
-    both _ _
+    sym
     (register-last s at.if-s-ne17.false (λ i. (at.type_inv.s i).fits) seal.result seal.type_inv seal.ensures at.if-s-ne63.false
     c.if-s-seal.true)
 
@@ -33,6 +26,6 @@ returns c =
     let seal = c.seal in
     let at = c in
     let s = at.args.s.now in
-    both _ _
+    sym
     (register-done s at.if-s-ne17.false (λ i. (at.type_inv.s i).fits) seal.result seal.type_inv seal.ensures at.if-s-ne63.false
     c.if-s-seal.false)

@@ -1,31 +1,22 @@
 -- Behind the token, or refused.
-use mathlib.Core.Path.{◌∙◌}
+use mathlib.Core.Path.{sym, ◌∙◌}
 use native.Mathlib.Omega.{arith}
+use borrow.Author.Rules.{rules}
+use borrow.Author.Tests.{eqb-true}
+use Rattle.std.proofs.lemmas.Result.{err_from_is_err_and}
 use Rattle.card_send.proofs.Led as Led
 use Rattle.card_send.proofs.block.encode_led.Goals as goal
 
-pub returns-then-out-eq0 : goal.returns-then-out-eq0
-returns-then-out-eq0 c =
-    let encode = c in
-    let test = encode in
-    encode.encode.ensures ∙ Led.no_buffer _ _ test.if-out-eq0.true
+pub returns-then-is_empty : goal.returns-then-is_empty
+returns-then-is_empty c = c.encode.ensures ∙ Led.no_buffer _ _ (eqb-true _ 0 (sym c.is_empty.ensures ∙ c.if-is_empty.true))
+
+pub returns-in_err-n : goal.returns-in_err-n
+returns-in_err-n c =
+    let p = err_from_is_err_and c.from_residual.result c.from_residual.ensures.1 in
+    rw (p.1, p.2) (Led.refused_as c.args.payload.now c.args.out.now c.encode-2.result _ _ (search rules) c.encode-2.ensures c.in_err-n.was)
 
 pub overflow_add-result : goal.overflow_add-result
-overflow_add-result c =
-    let encode = c in
-    let start = encode in
-    omega (arith, Led.few-wrote start.args.payload.now start.args.out.now encode.encode-e.result _ _ encode.encode-e.ensures c.in-Wrote.is)
+overflow_add-result c = omega (arith, Led.few-wrote c.args.payload.now c.args.out.now c.encode-2.result _ _ c.encode-2.ensures c.in_ok-n.was)
 
-pub returns-in-Wrote : goal.returns-in-Wrote
-returns-in-Wrote c =
-    let encode = c in
-    let test = encode in
-    let start = test in
-    Led.wrote start.args.payload.now start.args.out.now encode.encode-e.result _ _ test.if-out-eq0.false encode.encode-e.ensures c.in-Wrote.is
-
-pub returns-in-Refused : goal.returns-in-Refused
-returns-in-Refused c =
-    let encode = c in
-    let test = encode in
-    let start = test in
-    Led.refused_as start.args.payload.now start.args.out.now encode.encode-e.result _ _ test.if-out-eq0.false encode.encode-e.ensures c.in-Refused.is
+pub returns : goal.returns
+returns c = Led.wrote c.args.payload.now c.args.out.now c.encode-2.result _ _ (search rules) c.encode-2.ensures c.in_ok-n.was

@@ -1,7 +1,17 @@
--- `equal` compares the two lists of values.
-use mathlib.Core.Path.{ap₂, ◌∙◌}
+-- The derived equality holds where every field is equal; a flag's value is its digit.
+use mathlib.Core.Path.{◌≡◌, refl, ◌∙◌}
+use mathlib.Core.Bool.{Bool, true, false, beq, and-true}
+use lib.Dec.{eqb}
+use Rattle.crc.specs.Bits.{digit}
 use Rattle.card.specs.Soundness.{equal}
 use Rattle.card_settings.proofs.register.equal.Goals as goal
 
+same_digit : (a b : Bool) → eqb (digit a) (digit b) ≡ beq a b
+same_digit true true = refl
+same_digit true false = refl
+same_digit false true = refl
+same_digit false false = refl
+
 pub returns : goal.returns
-returns c = c.all_equal.ensures ∙ ap₂ equal c.values.ensures c.values-2.ensures
+unfolding equal
+returns c = c.eq.ensures ∙ simp (same_digit, and-true)

@@ -10,33 +10,15 @@ use Rattle.reg_scr_ocr.proofs.Bare.{size-refused, word_fields}
 use Rattle.reg_scr_ocr.proofs.ocr.decode.Goals as goal
 
 pub returns-then-s-ne4 : goal.returns-then-s-ne4
-unfolding width judged within
 returns-then-s-ne4 c = size-refused _ _ c.if-s-ne4.true
-
-pub word-w-requires : goal.word-w-requires
-unfolding width judged within
-word-w-requires c = tt
-
-pub field-requires : goal.field-requires
-unfolding width judged within
-field-requires c = tt
-
-pub field-requires-2 : goal.field-requires-2
-unfolding width judged within
-field-requires-2 c = tt
-
-pub field-requires-3 : goal.field-requires-3
-unfolding width judged within
-field-requires-3 c = tt
 
 pub returns : goal.returns
 unfolding width judged within
 returns c =
-    let b = c in
-    let w = b.word-w.result in
+    let w = c.word-w.result in
     ap done
     (cons _ _ _ _ (flag-part w 31 _ c.field.ensures)
     (cons _ _ _ _ (flag-part w 30 _ c.field-2.ensures)
     (cons _ _ _ _ c.field-3.ensures
     refl)))
-    ∙ word_fields 4 ocr.slots refl (λ _. refl) _ w (lit≤ tt) b.if-s-ne4.false b.word-w.ensures
+    ∙ word_fields 4 ocr.slots refl (λ _. refl) _ w (lit≤ tt) c.if-s-ne4.false c.word-w.ensures

@@ -3,50 +3,25 @@ use mathlib.Core.List.{append_assoc, append-nil}
 use lib.Dec.{lit≤}
 use Rattle.codec.specs.Layout.{write}
 use Rattle.codec.proofs.Masks.{join-bits}
-use Rattle.reg_cid.proofs.Words.{bits_none}
+use Rattle.reg_cid.proofs.Words.{bits_none, flag_digit}
 use Rattle.reg_scr_ocr.proofs.scr.word.Goals as goal
-
-pub join-w-requires : goal.join-w-requires
-unfolding write
-join-w-requires c = tt
-
-pub join-w-requires-2 : goal.join-w-requires-2
-unfolding write
-join-w-requires-2 c = tt
-
-pub flag-requires : goal.flag-requires
-unfolding write
-flag-requires c = tt
-
-pub join-w-requires-3 : goal.join-w-requires-3
-unfolding write
-join-w-requires-3 c = tt
-
-pub join-w-requires-4 : goal.join-w-requires-4
-unfolding write
-join-w-requires-4 c = tt
-
-pub join-w-requires-5 : goal.join-w-requires-5
-unfolding write
-join-w-requires-5 c = tt
-
-pub join-requires : goal.join-requires
-unfolding write
-join-requires c = tt
 
 pub returns : goal.returns
 unfolding write
 returns c =
-    let j4 = c in
-    let j2 = j4 in
     simp (
       join-bits 16 _ _ _ _ _ c.join.ensures (lit≤ tt),
       join-bits 12 _ _ _ _ _ c.join-w-5.ensures (lit≤ tt),
-      join-bits 9 _ _ _ _ _ j4.join-w-4.ensures (lit≤ tt),
-      join-bits 8 _ _ _ _ _ j4.join-w-3.ensures (lit≤ tt),
-      j4.flag.ensures,
-      join-bits 4 _ _ _ _ _ j2.join-w-2.ensures (lit≤ tt),
-      join-bits 0 _ _ _ _ _ j2.join-w.ensures (lit≤ tt),
+      join-bits 9 _ _ _ _ _ c.join-w-4.ensures (lit≤ tt),
+      join-bits 8 _ _ _ _ _ c.join-w-3.ensures (lit≤ tt),
+      join-bits 4 _ _ _ _ _ c.join-w-2.ensures (lit≤ tt),
+      join-bits 0 _ _ _ _ _ c.join-w.ensures (lit≤ tt),
+      c.from.ensures,
+      c.from-2.ensures,
+      c.from-3.ensures,
+      c.from-4.ensures,
+      c.from-5.ensures,
+      flag_digit,
       bits_none,
       append_assoc,
       append-nil,

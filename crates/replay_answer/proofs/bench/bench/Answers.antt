@@ -1,5 +1,6 @@
 -- The power-up is not refused.
 use borrow.Author.Rules.{rules}
+use Rattle.card_power.proofs.Zero.{zero_cid}
 use Rattle.replay_answer.proofs.Powered.{powered}
 use Rattle.replay_answer.proofs.bench.bench.Goals as goal
 
@@ -7,5 +8,5 @@ pub returns : goal.returns
 returns c =
     let none = c in
     let memory = none.args.memory.now in
-    let call = c.power_up-s in
-    powered _ memory none.no_password.result call.result (search rules) none.no_password.ensures call.ensures
+    let call = c.power_up in
+    powered _ memory none.no_password.result call.result (search rules) none.no_password.ensures (rw (zero_cid _ c.default.ensures) at call.ensures)

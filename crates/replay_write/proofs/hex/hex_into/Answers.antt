@@ -16,9 +16,6 @@ digit-requires c = omega (arith, c.type_inv.bytes c.loop-i.i)
 pub digit-requires-in-loop-i : goal.digit-requires-in-loop-i
 digit-requires-in-loop-i c = mask_lt (get_or c.args.bytes.now c.loop-i.i 0) 4
 
-pub bounds-out-at-in-loop-i : goal.bounds-out-at-in-loop-i
-bounds-out-at-in-loop-i c = simp length-set (omega arith)
-
 pub loop-i-preserved : goal.loop-i-preserved
 loop-i-preserved c =
     let at = c.loop-i in

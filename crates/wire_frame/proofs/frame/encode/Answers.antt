@@ -2,7 +2,7 @@
 use mathlib.Core.Path.{sym, ap, ◌∙◌}
 use mathlib.Core.Bool.{Bool}
 use native.Mathlib.Omega.{arith}
-use borrow.Author.Tests.{le-ltb, lt-ltb, not-true, not-false}
+use borrow.Author.Tests.{le-ltb, lt-ltb}
 use lib.ListN.{length-set}
 use Rattle.wire_frame.specs.Frame.{encode_frame}
 use Rattle.wire_frame.proofs.Frames.{put-content, frame-stored, stored-room, stored-length}
@@ -14,7 +14,7 @@ returns-then-out-lt17 c = simp (lt-ltb _ _ c.if-out-lt17.true)
 
 pub returns-then-not-fits : goal.returns-then-not-fits
 unfolding encode_frame
-returns-then-not-fits c = simp (le-ltb _ _ c.if-out-lt17.false, not-true c.args.fits c.if-not-fits.true-raw)
+returns-then-not-fits c = simp (le-ltb _ _ c.if-out-lt17.false, c.if-not-fits.true)
 
 pub slice_bounds-put32-end : goal.slice_bounds-put32-end
 slice_bounds-put32-end c = simp length-set (omega arith)
@@ -45,4 +45,4 @@ returns c =
     let m = put-content start.args.first start.args.content start.args.out.now put.new.out at.if-out-lt17.false put.ensures in
     frame-stored start.args.checked start.args.first start.args.content c.last.result start.args.out.now put.new.out
     start.ranges.first.fits c.last.type_inv at.if-out-lt17.false m c.last.ensures
-    ∙ ap (λ (p : Bool). encode_frame p start.args.checked start.args.first start.args.content start.args.out.now) (sym (not-false start.args.fits at.if-not-fits.false-raw))
+    ∙ ap (λ (p : Bool). encode_frame p start.args.checked start.args.first start.args.content start.args.out.now) (sym c.if-not-fits.false)

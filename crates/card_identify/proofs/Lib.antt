@@ -1,2 +1,0 @@
--- Laws of the voltage window.
-pub mod Window

@@ -1,3 +1,0 @@
--- Laws for the proofs of this crate.
-pub mod Judging
-pub mod Received

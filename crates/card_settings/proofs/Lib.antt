@@ -1,2 +1,0 @@
--- Laws of two lists walked side by side.
-pub mod Walks
