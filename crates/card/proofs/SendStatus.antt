@@ -18,7 +18,7 @@ use Rattle.card.specs.declared.Line.{Line}
 use Rattle.card.specs.declared.command.Command.TheVariants.{StopTransmission, SendStatus}
 use Rattle.card.specs.declared.done.Flag.TheVariants.{Keep}
 use Rattle.card.specs.declared.done.Response.TheVariants.{R1}
-use Rattle.card.specs.declared.done.Verdict.TheVariants.{Ran}
+use Rattle.card.specs.declared.done.Judged.TheVariants.{Ran}
 use Rattle.card.specs.Record.{with_kept, with_app, with_marks}
 use Rattle.card.specs.Protect.{whole}
 use Rattle.card.specs.State.{number, ina, in_spi, checking, number_in}
@@ -26,7 +26,7 @@ use Rattle.card.specs.Status.{no_bits, join, at}
 use Rattle.card.specs.Table.{row, moves, fits, find, command_of, own, has, legal, accepts}
 use Rattle.card.specs.Execute.{ran, moved, settled, run_at}
 use Rattle.card.specs.Effects.{stored, affected}
-use Rattle.card.specs.Frame.{Message, silence, r1, r6, spi_r1, plain, block, token, finished, Turn, quiet, judged, judge, message_of, cleared, finish}
+use Rattle.card.specs.Frame.{Message, silence, r1, r6, spi_r1, plain, block, token, finished, Turn, quiet, judge, message_of, cleared, finish}
 use Rattle.card.specs.Spi.{COM_CRC_ERROR, r1_byte, r2_byte, in_idle, behind_r1, unread, finish_spi}
 use Rattle.card.specs.Receive.{shown_sd, show_sd, by_check, receive_sd, show_spi, by_check_spi, receive}
 use Rattle.card.specs.Data.{take_from, block_into, password_into, over_from}
@@ -81,7 +81,7 @@ module _ (w : World) (frame : List ℕ) (low : Bool) (out : List ℕ) (h : Sends
   found = rw h.unmarked refl
 
   -- in either mode it runs
-  judges : judge c 13 h.argument ≡ judged Ran SendStatus (ran c R1)
+  judges : judge c 13 h.argument ≡ Ran SendStatus (ran c R1)
   unfolding judge settled row accepts run_at
   judges =
       let mine : not (own c.bus h.argument) ≡ false = ap not h.own in

@@ -8,9 +8,8 @@ use Rattle.card.specs.declared.done.Response.{Response}
 use Rattle.card.specs.declared.done.Response.TheVariants.{R1, R6, Cid, Csd, R3, R7}
 use Rattle.card.specs.declared.done.Effect.{Effect}
 use Rattle.card.specs.declared.done.Done.{Done}
-use Rattle.card.specs.declared.done.Verdict.{Verdict}
-use Rattle.card.specs.declared.done.Verdict.TheVariants.{NotAllowed, OtherCard, Ran}
 use Rattle.card.specs.declared.done.Judged.{Judged}
+use Rattle.card.specs.declared.done.Judged.TheVariants.{NotAllowed, OtherCard, Ran}
 use Rattle.card.specs.declared.done.Flag.{Flag}
 use Rattle.card.specs.declared.done.Flag.TheVariants.{Keep, Clear}
 use Rattle.card.specs.Settings.{cid_bytes, csd_bytes}
@@ -21,17 +20,13 @@ use Rattle.card.specs.Execute.{ran, settled, run}
 
 -- ---- which command, allowed or not, and what it does
 
-abbrev pub judged : Verdict → Command → Done → Judged
-judged v k d = record { verdict = v; command = k; done = d }
-
 -- not allowed here, not on a locked card, or not in the table; addressed to another RCA; or it runs
 unfoldable pub judge : Core → ℕ → ℕ → Judged
 judge c index argument =
     let k = command_of c.bus index argument in
     cond (accepts k c.locked && legal k c.bus)
-    (cond (misses (row k).rca (own c.bus argument)) (judged OtherCard k (ran c Response.Nothing))
-    (judged Ran k (run k (settled k c) argument)))
-    (judged NotAllowed k (ran c Response.Nothing))
+    (cond (misses (row k).rca (own c.bus argument)) OtherCard (Ran k (run k (settled k c) argument)))
+    NotAllowed
 
 -- ---- what a call comes to, before the line adds COM_CRC_ERROR and the checks
 

@@ -6,8 +6,8 @@ use Rattle.card.specs.declared.Mode.TheVariants.{Spi}
 use Rattle.card.specs.declared.Core.{Core}
 use Rattle.card.specs.declared.command.Command.{Command}
 use Rattle.card.specs.declared.done.Done.{Done}
-use Rattle.card.specs.declared.done.Verdict.TheVariants.{NotAllowed, OtherCard, Ran}
 use Rattle.card.specs.declared.done.Judged.{Judged}
+use Rattle.card.specs.declared.done.Judged.TheVariants.{NotAllowed, OtherCard, Ran}
 use Rattle.card.specs.declared.done.Flag.TheVariants.{Keep, Set}
 use Rattle.card.specs.Record.{with_app, with_mode}
 use Rattle.card.specs.State.{number, ina, in_spi, checking}
@@ -32,11 +32,9 @@ unfoldable pub shown_sd : Core → Bool → Command → Done → Turn
 shown_sd c low k d = cond (chooses low k) (finish_spi c.kept k (chosen d)) (finish k (number c.bus.state) d)
 
 unfoldable pub show_sd : Core → Bool → Judged → Turn
-show_sd c low j = elim j.verdict [
-  | NotAllowed ↦ quiet (with_app (raise c ILLEGAL_COMMAND) false) Keep
-  | OtherCard ↦ quiet (with_app c false) Keep
-  | Ran ↦ shown_sd c low j.command j.done
-]
+show_sd c low NotAllowed = quiet (with_app (raise c ILLEGAL_COMMAND) false) Keep
+show_sd c low OtherCard = quiet (with_app c false) Keep
+show_sd c low (Ran k d) = shown_sd c low k d
 
 -- what the frame check says: start or transmission bit wrong, nothing changes (house); check or end bit wrong, COM_CRC_ERROR
 unfoldable pub by_check : FrameCheck → Core → Bool → Turn
@@ -53,11 +51,9 @@ receive_sd c low frame = cond (eqb (number c.bus.state) ina) (quiet c Keep) (by_
 
 -- no frame is for another card here
 unfoldable pub show_spi : Core → Judged → Turn
-show_spi c j = elim j.verdict [
-  | NotAllowed ↦ said (with_app c false) (plain (error_r1 SpiBits.ILLEGAL_COMMAND c))
-  | OtherCard ↦ quiet c Keep
-  | Ran ↦ finish_spi c.kept j.command j.done
-]
+show_spi c NotAllowed = said (with_app c false) (plain (error_r1 SpiBits.ILLEGAL_COMMAND c))
+show_spi c OtherCard = quiet c Keep
+show_spi c (Ran k d) = finish_spi c.kept k d
 
 unfoldable pub by_check_spi : FrameCheck → Core → Turn
 by_check_spi (Ok fields) c = show_spi c (judge c fields.index fields.argument)

@@ -13,7 +13,7 @@ pub enum Response {
     Cid,
     Csd,
     R3(u32),
-    // voltage 0 where it is not accepted
+    // voltage 0 where it is not accepted, as the frame carries it
     R7 { voltage: u8, pattern: u8 },
 }
 
@@ -39,21 +39,14 @@ pub struct Done {
     pub effect: Effect,
 }
 
+// Whether the command that a frame asks for runs, and what it does then.
 #[derive(Clone, Copy)]
-pub enum Verdict {
+pub enum Judged {
     // not allowed in this state, or not in the table
     NotAllowed,
     // addressed to another RCA
     OtherCard,
-    Ran,
-}
-
-// The command that a frame asks for, whether it runs, and what it does then.
-#[derive(Clone, Copy)]
-pub struct Judged {
-    pub verdict: Verdict,
-    pub command: Command,
-    pub done: Done,
+    Ran { command: Command, done: Done },
 }
 
 // What becomes of COM_CRC_ERROR.

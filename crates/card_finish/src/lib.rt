@@ -7,7 +7,7 @@ ghost use Rattle.card.specs.Receive.{chosen, shown_sd, show_sd};
 ghost use Rattle.card_turn.specs.Turned.{turned};
 
 use card::command::Command;
-use card::done::{Done, Flag, Judged, Response, Verdict};
+use card::done::{Done, Flag, Judged, Response};
 use card::{Core, Mode};
 use card_record::{raise, with_app, with_kept, with_mode};
 use card_respond::Message;
@@ -79,12 +79,12 @@ fn shown_sd(c: Core, low: bool, command: Command, done: Done) -> Turned
 pub fn show_sd(c: Core, low: bool, judged: Judged) -> Turned
     ensures { turned result ≡ show_sd c low judged }
 {
-    match judged.verdict {
-        Verdict::NotAllowed => quiet(
+    match judged {
+        Judged::NotAllowed => quiet(
             with_app(raise(c, card_status::ILLEGAL_COMMAND), false),
             Flag::Keep,
         ),
-        Verdict::OtherCard => quiet(with_app(c, false), Flag::Keep),
-        Verdict::Ran => shown_sd(c, low, judged.command, judged.done),
+        Judged::OtherCard => quiet(with_app(c, false), Flag::Keep),
+        Judged::Ran { command, done } => shown_sd(c, low, command, done),
     }
 }

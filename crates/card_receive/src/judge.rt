@@ -3,11 +3,10 @@ ghost use Rattle.std.specs.Prelude.{◌≡◌};
 ghost use Rattle.card.specs.Frame.{judge};
 
 use card::Core;
-use card::done::{Judged, Response, Verdict};
+use card::done::Judged;
 use card_erase::settled;
 use card_index::{command_of, own};
 use card_run::run;
-use card_start::done::ran;
 use card_table::{accepts, legal, misses};
 
 #[tactic(auto, unfolding(card::specs::Frame::judge))]
@@ -16,21 +15,12 @@ pub fn judge(c: Core, index: u8, argument: u32) -> Judged
 {
     let command = command_of(c.bus, index, argument);
     if !(accepts(command, c.locked) && legal(command, c.bus)) {
-        return Judged {
-            verdict: Verdict::NotAllowed,
-            command,
-            done: ran(c, Response::Nothing),
-        };
+        return Judged::NotAllowed;
     }
     if misses(command, own(c.bus, argument)) {
-        return Judged {
-            verdict: Verdict::OtherCard,
-            command,
-            done: ran(c, Response::Nothing),
-        };
+        return Judged::OtherCard;
     }
-    Judged {
-        verdict: Verdict::Ran,
+    Judged::Ran {
         command,
         done: run(command, settled(command, c), argument),
     }

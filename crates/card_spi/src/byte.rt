@@ -23,6 +23,7 @@ const ERASE_RESET: u8 = 0x02;
 
 const IN_IDLE_STATE: u8 = 0x01;
 
+// By its weight; in `card_status::word` a bit goes by its place in a wider word.
 fn bit(value: bool, weight: u8) -> u8
     ensures { (result ≡ digit value * weight) × (result ≤ weight) }
 {

@@ -12,7 +12,7 @@ pub mod byte;
 
 use byte::{r1_byte, r2_byte, unread};
 use card::command::Command;
-use card::done::{Done, Flag, Judged, Response, Verdict};
+use card::done::{Done, Flag, Judged, Response};
 use card::{Core, Kept};
 use card_record::{with_app, with_kept};
 use card_respond::{Behind, Message};
@@ -72,9 +72,9 @@ pub fn finish_spi(c: Core, command: Command, done: Done) -> Turned
 pub fn show_spi(c: Core, judged: Judged) -> Turned
     ensures { turned result ≡ show_spi c judged }
 {
-    match judged.verdict {
-        Verdict::NotAllowed => error(with_app(c, false), byte::not_allowed(in_idle(c.bus.state))),
-        Verdict::OtherCard => quiet(c, Flag::Keep),
-        Verdict::Ran => finish_spi(c, judged.command, judged.done),
+    match judged {
+        Judged::NotAllowed => error(with_app(c, false), byte::not_allowed(in_idle(c.bus.state))),
+        Judged::OtherCard => quiet(c, Flag::Keep),
+        Judged::Ran { command, done } => finish_spi(c, command, done),
     }
 }

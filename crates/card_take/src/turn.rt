@@ -1,34 +1,18 @@
 // Take a block from an open read transfer: a block of memory, the marks, or a register.
-ghost use Rattle.std.specs.Prelude.{◌≡◌, true, false, cond, Some, None};
+ghost use Rattle.std.specs.Prelude.{◌≡◌, true, false, cond};
 ghost use Rattle.card.specs.declared.Source.TheVariants.{Blocks};
 ghost use Rattle.card.specs.declared.State.TheVariants.{Data, Tran};
-ghost use Rattle.card.specs.Status as Status;
-ghost use Rattle.card.specs.Checks.{outside, crossing};
 ghost use Rattle.card.specs.Data.{take_source};
 ghost use Rattle.card.specs.Step.{led};
 ghost use Rattle.card_call.specs.Seen.{returned, turned};
 ghost use Rattle.card_take.specs.Takes.{Takes};
 
 use card::answer::Answer;
-use card::size::BLOCK;
 use card::{Card, Source, State};
 use card_call::Stepped;
 use card_send::{hold, send, send_cid, send_csd, send_marks, send_scr, send_status, send_word};
 use card_settings::capacity;
-use card_status::{ADDRESS_ERROR, OUT_OF_RANGE};
-
-// The bit that holds a read: past the end, or across a boundary.
-fn hold_bit(top: u64, length: u16, address: u32) -> Option<u8>
-    ensures { result ≡ cond (outside top address) (Some Status.OUT_OF_RANGE) (cond (crossing length address) (Some Status.ADDRESS_ERROR) None) }
-{
-    if top <= address as u64 {
-        Some(OUT_OF_RANGE)
-    } else if address % BLOCK + length as u32 > BLOCK {
-        Some(ADDRESS_ERROR)
-    } else {
-        None
-    }
-}
+use card_start::checks::read_check;
 
 // 18 goes on behind the block, 17 returns to tran.
 fn behind(multiple: bool, address: u32) -> State
@@ -45,7 +29,7 @@ fn behind(multiple: bool, address: u32) -> State
     }
 }
 
-// 17 and 18.
+// 17 and 18. What the start check of a read would refuse holds it: past the end, or across a boundary.
 fn take_blocks(
     card: Card,
     memory: &[u8],
@@ -65,7 +49,7 @@ fn take_blocks(
         };
     }
     let length = card.core.length;
-    if let Some(bit) = hold_bit(capacity(card.core.settings.blocks), length, address) {
+    if let Some(bit) = read_check(capacity(card.core.settings.blocks), length, address) {
         return hold(card, bit, multiple, address);
     }
     let start = address as usize;

@@ -20,7 +20,7 @@ pub struct Turned {
     pub effect: Effect,
 }
 
-// Silence; memory and marks stay.
+// Silence, by a response of nothing, whose index and word are not looked at; memory and marks stay.
 pub fn quiet(c: Core, flag: Flag) -> Turned
     ensures { turned result ≡ quiet c flag }
 {

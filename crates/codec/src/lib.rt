@@ -122,7 +122,7 @@ pub fn behind(s: &[u8], n: usize) -> &[u8]
     &s[n.min(s.len())..]
 }
 
-// Copies as many bytes as both have room for, from the front.
+// Copies as many bytes as both have room for, from the front; the library's copy wants two of one length.
 pub fn copy(out: &mut [u8], s: &[u8])
     ensures { out.new ≡ take (length out.old) s.now ++ drop (length s.now) out.old }
 {

@@ -1,5 +1,5 @@
 // The answer to a block as the console writes it.
-ghost use Rattle.std.specs.Prelude.{◌≡◌, unwrap_or};
+ghost use Rattle.std.specs.Prelude.{◌≡◌};
 ghost use Rattle.card.specs.Step as Step;
 ghost use Rattle.console_answer.specs.Response.{response_of};
 
@@ -7,7 +7,7 @@ use card::answer::Answer;
 
 // The byte of a data answer in SPI mode.
 pub fn data_response(answer: Answer) -> Option<u8>
-    ensures { unwrap_or result 0 ≡ response_of (Step.answer answer) }
+    ensures { result ≡ response_of (Step.answer answer) }
 {
     match answer {
         Answer::Accepted => Some(0x05),

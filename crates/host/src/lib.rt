@@ -95,7 +95,7 @@ pub struct Stepped {
     pub host: Host,
 }
 
-// What a start gives. Where it is refused, every step of the record is refused too.
+// What a start gives. Where it is refused, every step of the record is refused too: a Result would hand no record back.
 #[derive(Clone, Copy, Debug, PartialEq, Eq)]
 pub struct Started {
     pub answer: Result<(), Refusal>,

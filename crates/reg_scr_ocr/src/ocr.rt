@@ -46,6 +46,7 @@ pub fn encode(c: Ocr, out: &mut [u8]) -> Result<usize, Refusal>
 pub fn decode(s: &[u8]) -> Result<Ocr, Refusal>
     ensures { ocr_read result ≡ decode ocr s.now }
 {
+    // its own size and no check, so nothing is shared with the registers of 16 bytes
     if s.len() != 4 {
         return Err(Refusal::Size);
     }

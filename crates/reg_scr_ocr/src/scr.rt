@@ -46,6 +46,7 @@ pub fn encode(c: Scr, out: &mut [u8]) -> Result<usize, Refusal>
 pub fn decode(s: &[u8]) -> Result<Scr, Refusal>
     ensures { scr_read result ≡ decode scr s.now }
 {
+    // its own size and no check, so nothing is shared with the registers of 16 bytes
     if s.len() != 8 {
         return Err(Refusal::Size);
     }

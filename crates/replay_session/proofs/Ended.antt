@@ -1,6 +1,6 @@
 -- A line that is ended: its answer goes to its place in the text.
 use mathlib.Core.Path.{◌≡◌, refl, sym, ap, ap₂, subst, ◌∙◌}
-use mathlib.Core.List.{List, [], ◌++◌, append-nil}
+use mathlib.Core.List.{List, ◌++◌, append-nil}
 use Prim.Native.Nat.{ℕ, ◌+◌, ◌-◌, ◌≤◌, min}
 use native.Mathlib.Omega.{arith}
 use borrow.Author.Tests.{ltb-false}
@@ -15,7 +15,7 @@ use Rattle.replay_read.specs.Keep.{collected}
 use Rattle.replay_write.specs.Write.{fitted, ROOM, size, place}
 use Rattle.replay_answer.specs.declared.Replayed.{Replayed}
 use Rattle.replay_answer.specs.declared.Session.{Session}
-use Rattle.replay_answer.specs.Played.{Shown, shown, on_text}
+use Rattle.replay_answer.specs.Played.{Shown, shown}
 use Rattle.replay_line.specs.Replay.{replayed, play_line}
 use Rattle.replay_session.specs.Session.{SessionState, line_ended, session}
 

@@ -1,5 +1,5 @@
 -- The laws of specs/Laws.antt: a newline behind a line plays it, and the rest is heard from an empty buffer.
-use mathlib.Core.Path.{◌≡◌, refl, sym, ap, ap₂, ◌∙◌}
+use mathlib.Core.Path.{◌≡◌, refl, sym, ap, ◌∙◌}
 use mathlib.Core.Bool.{Bool, true, false, not, ◌&&◌, false≢true}
 use mathlib.Core.List.{List, [], ◌∷◌, ◌++◌, append_assoc, append-nil}
 use Prim.Native.Nat.{ℕ, ◌+◌, ◌≤◌}
@@ -15,7 +15,7 @@ use Rattle.replay_write.specs.Write.{ROOM, fitted}
 use Rattle.replay_answer.specs.Played.{Shown, on_text}
 use Rattle.replay_line.specs.Replay.{play, replayed, play_line}
 use Rattle.replay_session.specs.Session.{SessionState, NEWLINE, place_in, gathered, gather_into, line_ended, heard, heard_all, is_line, are_lines, joined, play_all, answers}
-use Rattle.replay_session.specs.Laws.{SessionLaws, Chunks, Sessions, after}
+use Rattle.replay_session.specs.Laws.{Chunks, Sessions}
 use Rattle.replay_session.proofs.Gathered.{room_there, same_text, next-count, next-kept}
 
 pub chunks : Chunks

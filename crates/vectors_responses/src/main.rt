@@ -6,24 +6,28 @@ use vectors_print::{Hex, Refused, Shown, Word, encoded};
 use wire_response::status;
 use wire_response_decode::{Echo, Published};
 
-// An R2, one with a wrong check, and one that is a byte short.
-const R2S: [&[u8]; 3] = [
-    &[0x3F, 0, 0, 0, 0, 0, 0, 0, 0, 0, 0, 0, 0, 0, 0, 0, 0x01],
+// An R2 with a wrong check, and one that is a byte short.
+const WRONG_R2S: [&[u8]; 2] = [
     &[0x3F, 0, 0, 0, 0, 0, 0, 0, 0, 0, 0, 0, 0, 0, 0, 0, 0],
     &[0x3F, 0, 0, 0, 0, 0, 0, 0, 0, 0, 0, 0, 0, 0, 0, 0],
 ];
+
+// The content of the register, without its check, and the number of the refusal.
+fn r2_decoded(rt: &impl Print, s: &[u8]) -> io::Result<()> {
+    match wire_response_decode::decode_r2(s) {
+        Ok(register) => println!(rt; "R2 {} {} 00", Hex(s), Hex(codec::front(register, 15))),
+        Err(refusal) => println!(rt; "R2 {}  {:02X}", Hex(s), u8::from(refusal)),
+    }
+}
 
 fn r2(rt: &impl Print) -> io::Result<()> {
     let mut out = [0u8; 17];
     let register = [0, 0, 0, 0, 0, 0, 0, 0, 0, 0, 0, 0, 0, 0, 0, 0x01];
     let written = wire_response::encode_r2(&register, &mut out);
     println!(rt; "R2 {}", encoded(written, &out))?;
-    // the content of the register, without its check, and the number of the refusal
-    for s in R2S {
-        match wire_response_decode::decode_r2(s) {
-            Ok(register) => println!(rt; "R2 {} {} 00", Hex(s), Hex(codec::front(register, 15)))?,
-            Err(refusal) => println!(rt; "R2 {}  {:02X}", Hex(s), u8::from(refusal))?,
-        }
+    r2_decoded(rt, &out)?;
+    for s in WRONG_R2S {
+        r2_decoded(rt, s)?;
     }
     Ok(())
 }

@@ -1,5 +1,4 @@
 -- What the frame does, on the line.
-use borrow.Author.Rules.{rules}
 use Rattle.replay_write.specs.declared.Kind.TheVariants.{Response}
 use Rattle.replay_answer.proofs.Played.{played_by}
 use Rattle.replay_line.proofs.command.Goals as goal

@@ -1,5 +1,4 @@
 -- The answer goes to its place in the text.
-use borrow.Author.Rules.{rules}
 use Rattle.replay_session.proofs.Ended.{line-ended}
 use Rattle.replay_session.proofs.end_line.Goals as goal
 

@@ -1,12 +1,8 @@
 -- Byte by byte: at the loop's head, the bytes that are left lead to what all of them lead to.
-use mathlib.Core.Path.{◌≡◌, refl}
-use Prim.Native.Nat.{◌≤◌, ◌-◌}
-use native.Mathlib.Omega.{arith}
-use borrow.Author.Rules.{rules}
+use mathlib.Core.Path.{◌≡◌}
+use Prim.Native.Nat.{◌≤◌}
 use lib.ListN.{length, drop}
-use Rattle.replay_answer.specs.declared.Session.{Session}
 use Rattle.replay_session.specs.Session.{heard_all, session}
-use Rattle.replay_session.proofs.Heard.{ends-line, keeps_byte, next-byte, all-heard}
 use Rattle.replay_session.proofs.hear_all.Given as goal
 
 abbrev pub invariant-loop-byte : goal.invariant-loop-byte

@@ -1,12 +1,8 @@
 -- Block after block: at the loop's head, the calls left give what all of them give.
-use mathlib.Core.Path.{◌≡◌, refl, ◌∙◌}
+use mathlib.Core.Path.{refl, ◌∙◌}
 use mathlib.Core.List.{[]}
-use Prim.Native.Nat.{◌-◌, ◌≤◌}
 use native.Mathlib.Omega.{arith}
-use borrow.Author.Rules.{rules}
-use lib.ListN.{length}
-use Rattle.card.specs.Step.{world}
-use Rattle.speed_card.specs.Blocks.{more, many, again}
+use Rattle.speed_card.specs.Blocks.{again}
 use Rattle.speed_card.proofs.Runs.{all_left, less, none_left}
 use Rattle.speed_card.proofs.give_many.Goals as goal
 

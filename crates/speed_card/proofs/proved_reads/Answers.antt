@@ -1,5 +1,4 @@
 -- The frames, and the blocks behind them.
-use borrow.Author.Rules.{rules}
 use Rattle.card.specs.Step.{take_block}
 use Rattle.speed_card.proofs.Runs.{behind}
 use Rattle.speed_card.proofs.proved_reads.Goals as goal

@@ -1,7 +1,6 @@
 -- The frames, and the blocks behind them.
 use mathlib.Core.Path.{◌∙◌}
 use mathlib.Core.List.{[]}
-use borrow.Author.Rules.{rules}
 use Rattle.speed_card.specs.Blocks.{again}
 use Rattle.speed_card.proofs.Runs.{behind}
 use Rattle.speed_card.proofs.proved_writes.Goals as goal

@@ -1,13 +1,10 @@
 -- Block after block: at the loop's head, the calls left give what all of them give.
-use mathlib.Core.Path.{◌≡◌, refl, ◌∙◌}
+use mathlib.Core.Path.{◌≡◌}
 use Prim.Native.Nat.{◌-◌, ◌≤◌}
-use native.Mathlib.Omega.{arith}
-use borrow.Author.Rules.{rules}
 use lib.ListN.{length}
 use Rattle.card.specs.Step.{take_block}
 use Rattle.card.specs.Step.{world}
 use Rattle.speed_card.specs.Blocks.{more, many}
-use Rattle.speed_card.proofs.Runs.{all_left, less, none_left}
 use Rattle.speed_card.proofs.take_many.Given as goal
 
 abbrev pub invariant-loop : goal.invariant-loop

@@ -1,6 +1,5 @@
 -- What the call leaves, without its answer.
 use mathlib.Core.Path.{ap}
-use borrow.Author.Rules.{rules}
 use Rattle.speed_open.proofs.Frames.{world_of}
 use Rattle.speed_open.proofs.hear.Goals as goal
 

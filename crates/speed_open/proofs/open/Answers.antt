@@ -1,6 +1,5 @@
 -- Frame after frame, each that of the mode.
 use mathlib.Core.Path.{refl, ◌∙◌}
-use borrow.Author.Rules.{rules}
 use Rattle.speed_open.proofs.Frames.{after}
 use Rattle.speed_open.proofs.open.Goals as goal
 
