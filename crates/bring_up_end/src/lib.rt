@@ -36,10 +36,7 @@ impl Display for Why {
 
 // The register was accepted with its check, so it is decoded.
 fn block_count(csd: [u8; 16]) -> u32 {
-    match reg_csd_decode::decode(&csd) {
-        Ok(fields) => blocks(fields.c_size, fields.c_size_mult),
-        Err(_) => 0,
-    }
+    reg_csd_decode::decode(&csd).map_or(0, |fields| blocks(fields.c_size, fields.c_size_mult))
 }
 
 // The line of an answer that is no frame. No step is refused here: the limit was accepted, and the buffer has room. What cannot

@@ -25,8 +25,8 @@ field most s = cond (is_field most s) (bytes (unhex s)) other
 unfoldable pub read_answer : ℕ → List ℕ → Said
 read_answer most s = cond (equal s NONE) (bytes []) (cond (equal (take 4 s) RSP) (field most (drop 4 s)) other)
 
--- ---- an answer as the code holds it: so many bytes of a buffer
+-- ---- an answer as the code holds it: its bytes
 
-abbrev pub said : Option ℕ → List ℕ → Said
-said (Some n) buffer = bytes (take n buffer)
-said None buffer = other
+abbrev pub said : Option (List ℕ) → Said
+said (Some s) = bytes s
+said None = other

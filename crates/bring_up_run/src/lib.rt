@@ -19,27 +19,25 @@ fn send(out: &[u8], n: usize) {
 
 // A proved loop has to end: no run uses up its count.
 fn bring_up<R: Read>(rt: &impl Print, input: &mut R, begun: Host) -> std::io::Result<()> {
-    let mut host = begun;
     let mut lines = Lines::new();
     // one byte more than the longest line
     let mut line = [0u8; 1033];
     let mut bytes = [0u8; 514];
-    let mut size: usize = 0;
     let mut out = [0u8; 17];
+    let mut stepped = host_step::step(begun, &[], &mut out);
     for _ in 0..u64::MAX {
-        let stepped = host_step::step(host, front(&bytes, size), &mut out);
-        host = stepped.host;
+        let host = stepped.host;
         let Answer::Sent(n) = stepped.answer else {
             bring_up_end::ended(rt, stepped.answer, host.found, host.polls);
             return Ok(());
         };
         send(&out, n);
         let arrived = lines.line(input, &mut line)?;
-        let Some(count) = read(front(&line, arrived), &mut bytes) else {
+        let Some(heard) = read(front(&line, arrived), &mut bytes) else {
             bring_up_end::no_answer(rt, host.phase);
             return Ok(());
         };
-        size = count;
+        stepped = host_step::step(host, heard, &mut out);
     }
     Ok(())
 }

@@ -15,6 +15,7 @@ pub mod Soundness
 pub mod Lock
 pub mod Data
 pub mod Step
+pub mod Replied
 pub mod History
 pub mod Registers
 pub mod SendStatus

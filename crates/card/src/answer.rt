@@ -1,4 +1,9 @@
 // What a call answers, and what it is handed.
+ghost use Rattle.std.specs.Prelude.{◌≡◌};
+ghost use Rattle.codec.specs.Answer.{encoded};
+ghost use Rattle.card.specs.Step.{answer};
+ghost use Rattle.card.specs.Replied.{replied};
+
 use codec::Refusal;
 
 // The answer of a call.
@@ -16,8 +21,20 @@ pub enum Answer {
     Refused(Refusal),
 }
 
+// What an encoder answered: the bytes were sent, or its refusal.
+impl From<Result<usize, Refusal>> for Answer {
+    ghost from_gives = { λ written given. answer given ≡ replied (encoded written) };
+
+    fn from(written: Result<usize, Refusal>) -> Answer {
+        match written {
+            Ok(n) => Answer::Sent(n),
+            Err(refusal) => Answer::Refused(refusal),
+        }
+    }
+}
+
 // What was handed in, held against the rows of 01's table of refused calls: which of them apply.
-#[derive(Clone, Copy)]
+#[derive(Clone, Copy, Default)]
 pub struct Rows {
     // 1: a size
     pub size: bool,

@@ -1,7 +1,10 @@
-// The card's types: here the record, with the settings and the states that it holds. What the calls do with them is in specs/, and
-// no code is here. Every check above spells these names out many times over, so they stand in no module, and nothing derives what no code
+// The card's types: here the record, with the settings and the states that it holds. What the calls do with them is in specs/; the only
+// code is three conversions. Every check above spells these names out many times over, so they stand in no module, and nothing derives what no code
 // uses: each crate above would check it.
 #![tactic(auto)]
+
+ghost use Rattle.std.specs.Prelude.{◌≡◌, ◌≤◌};
+ghost use Rattle.card.specs.State.{number};
 
 pub mod answer;
 pub mod command;
@@ -13,7 +16,7 @@ use reg_cid::cid::Cid;
 use reg_csd::Csd;
 
 // The settings of a power-up.
-#[derive(Clone, Copy)]
+#[derive(Clone, Copy, Default)]
 pub struct Settings {
     // block count
     pub blocks: u32,
@@ -70,6 +73,26 @@ pub enum State {
     Ina,
 }
 
+// Its number: bits 12..9 of the status.
+impl From<State> for u8 {
+    ghost from_gives = { λ state n. (n ≡ number state) × (n ≤ 9) };
+
+    fn from(state: State) -> u8 {
+        match state {
+            State::Idle => 0,
+            State::Ready => 1,
+            State::Ident => 2,
+            State::Stby => 3,
+            State::Tran => 4,
+            State::Data(_) => 5,
+            State::Rcv(_) => 6,
+            State::Prg => 7,
+            State::Dis => 8,
+            State::Ina => 9,
+        }
+    }
+}
+
 // What a state has open. With its number, this answers every question that is asked of a state.
 #[derive(Clone, Copy)]
 pub enum Open {
@@ -110,7 +133,7 @@ pub struct EraseMarks {
 }
 
 // The status bits that the card keeps, but COM_CRC_ERROR.
-#[derive(Clone, Copy)]
+#[derive(Clone, Copy, Default)]
 pub struct Kept {
     pub out_of_range: bool,
     pub address_error: bool,

@@ -2,6 +2,7 @@
 use mathlib.Core.Path.{◌≡◌, refl, sym, ap, ap₂, ◌∙◌}
 use mathlib.Core.Bool.{Bool, true, false, cond, not, ◌||◌, true≢false, false≢true}
 use mathlib.Core.List.{List, []}
+use mathlib.Core.Logic.{◌⊎◌, inl, inr}
 use mathlib.Core.Option.{none}
 use Prim.Native.Nat.{ℕ, ◌+◌, ◌%◌, ◌≤◌}
 use native.Mathlib.Omega.{arith}
@@ -9,6 +10,10 @@ use borrow.Author.Tests.{eqb-true, not-false}
 use lib.ListN.{length, get_or, drop, length-drop}
 use Rattle.wire_packet.specs.Packet.{PAYLOAD, CHECK}
 use Rattle.card.specs.declared.answer.Rows.{Rows}
+use Rattle.card.specs.declared.done.Flag.TheVariants.{Keep}
+use Rattle.card.specs.declared.State.{State}
+use Rattle.card.specs.declared.Source.{Source}
+use Rattle.card.specs.declared.Sink.{Sink}
 use Rattle.card.specs.declared.Sink.TheVariants.{Single, Multiple, LockUnlock}
 use Rattle.card.specs.declared.Open.{Open}
 use Rattle.card.specs.declared.Open.TheVariants.{Nothing, Read, Write, Busy}
@@ -16,9 +21,9 @@ use Rattle.card.specs.declared.Core.{Core}
 use Rattle.card.specs.declared.Password.{Password}
 use Rattle.card.specs.declared.Card.{Card}
 use Rattle.card.specs.Settings.{BLOCK}
-use Rattle.card.specs.State.{open_of, writing, locking}
+use Rattle.card.specs.State.{open_of, writing, locking, sink_address, sink}
 use Rattle.card.specs.Soundness.{unsound, off_write}
-use Rattle.card.specs.Frame.{Turn}
+use Rattle.card.specs.Frame.{Turn, quiet}
 use Rattle.card.specs.Data.{write_into, block_into, password_into}
 use Rattle.card.specs.Step.{BLOCK_ROWS, applies, refusal, incoming, token_size, packet_size, lone_byte, other_block}
 use Rattle.card_call.specs.Seen.{Seen, turned, turned_with}
@@ -29,17 +34,11 @@ use Rattle.card_token.proofs.Tokens.{packet-long}
 use Rattle.card_refuse.specs.Rows.{rows_of}
 use Rattle.card.proofs.Facts.{facts-sound}
 use Rattle.card_refuse.proofs.Passed.{passed, sound_record, sized}
-use Rattle.card_block_in.specs.declared.turn.Transfer.{Transfer}
-use Rattle.card_block_in.specs.Stores.{parts}
+use Rattle.card_state.specs.declared.Transfer.{Transfer}
 use Rattle.card_block_in.specs.Enters.{Enters, payload_turned, packet_turned}
 
-aligned : (o : Open) → off_write o ≡ false → (parts o).address % BLOCK ≡ 0
-aligned Nothing e = refl
-aligned (Read s) e = refl
-aligned (Write (Single address held)) e = eqb-true (address % BLOCK) 0 (not-false _ e)
-aligned (Write (Multiple address held)) e = eqb-true (address % BLOCK) 0 (not-false _ e)
-aligned (Write LockUnlock) e = refl
-aligned (Busy s) e = refl
+aligned : (o : Open) → off_write o ≡ false → (s : Sink) → o ≡ Write s → sink_address s % BLOCK ≡ 0
+aligned o e s told = eqb-true (sink_address s % BLOCK) 0 (not-false _ (ap off_write (sym told) ∙ e))
 
 -- the size that is left where the other is not
 either : (a b : Bool) → not (a || b) ≡ false → b ≡ false → a ≡ true
@@ -81,57 +80,24 @@ module _ (c : Core) (password : ℕ) (memory block : List ℕ) (closed : Bool)
         let size = sized c (length memory) sound (row 2) in
         let bounds = bounded (locking o) c.length _ facts.size.low facts.size.high sized_as in
         record {
-          stores = record {
+          stores = λ s to. record {
             size = size;
-            aligned = aligned o (ap off_write told ∙ facts.transfer.aligned);
+            aligned = aligned o (ap off_write told ∙ facts.transfer.aligned) s to;
             count = omega (arith, facts.transfer.count, size.blocks);
           };
           decodes = record { low = bounds.0; high = bounds.1 };
           whole = λ e. sized_as ∙ ap (λ (b : Bool). cond b c.length BLOCK + CHECK) e;
         }
 
--- ---- by its parts, or by what is open
+-- ---- no write is open
 
-into : (o : Open) (right success : Bool) (c : Core) (s : List ℕ) → locking o ≡ false
-    → write_into (parts o).multiple (parts o).address (parts o).held right c s ≡ block_into o right success c s
-unfolding block_into write_into
-into Nothing right success c s e = refl
-into (Read _) right success c s e = refl
-into (Write (Single address held)) right success c s e = refl
-into (Write (Multiple address held)) right success c s e = refl
-into (Write LockUnlock) right success c s e = absurd (true≢false e)
-into (Busy _) right success c s e = refl
-
--- the password stays, but for 42
-kept : (o : Open) (right success : Bool) (p : Password) (s : List ℕ) → locking o ≡ false → p ≡ password_into o right success p s
-unfolding password_into
-kept o right success p s e = rw e
-
-locked : (o : Open) → locking o ≡ true → Write LockUnlock ≡ o
-locked Nothing e = absurd (false≢true e)
-locked (Read s) e = absurd (false≢true e)
-locked (Write (Single address held)) e = absurd (false≢true e)
-locked (Write (Multiple address held)) e = absurd (false≢true e)
-locked (Write LockUnlock) e = refl
-locked (Busy s) e = absurd (false≢true e)
-
--- a payload p of which the code told b
-module _ (card : Card) (o : Open) {right : Bool} {s : List ℕ} (memory : List ℕ) {v : Seen} {b : Bool} {p : List ℕ} (judged : b ≡ right) (same : p ≡ s) where
-  pub written_as : (t : Transfer) → t ≡ parts o → locking o ≡ false → v ≡ turned card memory [] (write_into t.multiple t.address t.held b card.core p)
-      → v ≡ payload_turned card o right s memory
-  written_as t k e h =
-      let success = succeeded card s in
-      h
-      ∙ ap₂ (λ (x : Bool) (q : List ℕ). turned card memory [] (write_into t.multiple t.address t.held x card.core q)) judged same
-      ∙ ap (λ (x : Transfer). turned card memory [] (write_into x.multiple x.address x.held right card.core s)) k
-      ∙ ap₂ (λ (q : Password) (x : Turn). turned_with card q memory [] x) (kept o right success card.password s e) (into o right success card.core s e)
-
-  pub locked_as : locking o ≡ true → v ≡ lock_turned card b p memory → v ≡ payload_turned card o right s memory
-  unfolding block_into
-  locked_as e h =
-      h
-      ∙ ap₂ (λ (x : Bool) (q : List ℕ). lock_turned card x q memory) judged same
-      ∙ ap (λ (x : Open). payload_turned card x right s memory) (locked o e)
+pub unwritten : (card : Card) {o : Open} (right : Bool) (s memory : List ℕ) {v : Seen}
+    → (o ≡ Nothing) ⊎ (((x : Source) × (o ≡ Read x)) ⊎ ((x : State) × (o ≡ Busy x)))
+    → v ≡ turned card memory [] (quiet card.core Keep) → v ≡ payload_turned card o right s memory
+unfolding block_into password_into
+unwritten card right s memory (inl e) h = h ∙ ap (λ (x : Open). payload_turned card x right s memory) (sym e)
+unwritten card right s memory (inr (inl (x, e))) h = h ∙ ap (λ (y : Open). payload_turned card y right s memory) (sym e)
+unwritten card right s memory (inr (inr (x, e))) h = h ∙ ap (λ (y : Open). payload_turned card y right s memory) (sym e)
 
 -- ---- as the code has it, by o, or as the model has it, by q
 

@@ -1,14 +1,19 @@
 // A packet that came in: its check, and the open transfer that its payload goes into.
-ghost use Rattle.std.specs.Prelude.{◌≡◌, [], not, ◌||◌, drop};
+ghost use Rattle.std.specs.Prelude.{◌≡◌, [], false, not, ◌||◌, drop, length};
 ghost use Rattle.wire_packet.specs.Packet.{packet_right};
+ghost use Rattle.card.specs.declared.Open.TheVariants.{Write};
+ghost use Rattle.card.specs.Settings.{BLOCK};
+ghost use Rattle.card.specs.State.{sink_address, sink_locks};
 ghost use Rattle.card_call.specs.Seen.{returned};
-ghost use Rattle.card_block_in.specs.Stores.{Decodes};
-ghost use Rattle.card_block_in.specs.Enters.{Enters, packet_turned};
+ghost use Rattle.card_block_in.specs.Stores.{Stores, Decodes};
+ghost use Rattle.card_block_in.specs.Enters.{Enters, payload_turned, packet_turned};
 
-use crate::turn::{open_write, write_into};
-use card::{Card, Open};
+use crate::turn::write_into;
+use card::answer::Answer;
+use card::{Card, Open, Sink};
 use card_call::Stepped;
 use card_lock_in::lock_into;
+use card_state::Transfer;
 use wire_packet::CHECK;
 
 // Whether its check is right, or not judged.
@@ -17,6 +22,31 @@ fn packet_right(checks: bool, p: &[u8]) -> bool
     ensures { result ≡ (not checks || packet_right p.now) }
 {
     !checks || wire_packet::decode(p).is_ok()
+}
+
+fn write_sink(sink: Sink, card: Card, right: bool, payload: &[u8], memory: &mut [u8]) -> Stepped
+    requires { Stores card.core (sink_address sink) memory.old × (sink_locks sink ≡ false → length payload.now ≡ BLOCK) }
+    ensures { returned result memory.new [] ≡ payload_turned card (Write sink) right payload.now memory.old }
+{
+    match sink {
+        Sink::LockUnlock => lock_into(card, right, payload, memory),
+        Sink::Single { address, held } => {
+            let t = Transfer {
+                multiple: false,
+                address,
+                held,
+            };
+            write_into(card, right, payload, memory, t)
+        }
+        Sink::Multiple { address, held } => {
+            let t = Transfer {
+                multiple: true,
+                address,
+                held,
+            };
+            write_into(card, right, payload, memory, t)
+        }
+    }
 }
 
 // The packet stands behind the first bytes of a block, so many; no byte is moved but to its place in memory.
@@ -34,9 +64,12 @@ pub(crate) fn enter(
     let end = block.len() - CHECK;
     let right = packet_right(checks, &block[at..]);
     let payload = &block[at..end];
-    if card_state::locking(o) {
-        lock_into(card, right, payload, memory)
-    } else {
-        write_into(card, right, payload, memory, open_write(o))
+    match o {
+        Open::Write(sink) => write_sink(sink, card, right, payload, memory),
+        // row 5 has refused the call
+        Open::Nothing | Open::Read(_) | Open::Busy(_) => Stepped {
+            answer: Answer::Silence,
+            card,
+        },
     }
 }

@@ -8,7 +8,7 @@ ghost use Rattle.card.specs.Data.{write_into};
 ghost use Rattle.card_call.specs.Seen.{returned, turned};
 ghost use Rattle.card.specs.Checks.{outside};
 ghost use Rattle.card.specs.Status as Status;
-ghost use Rattle.card_block_in.specs.Stores.{Stores, parts};
+ghost use Rattle.card_block_in.specs.Stores.{Stores};
 
 use card::answer::Answer;
 use card::done::Effect;
@@ -18,51 +18,15 @@ use card_call::{Stepped, answered};
 use card_effect::apply;
 use card_protect::{guarded, whole};
 use card_record::{raise, with_state, with_written};
-use card_settings::capacity;
-use card_state::sink;
+use card_settings::{capacity, outside};
+use card_state::Transfer;
 use card_status::{OUT_OF_RANGE, WP_VIOLATION};
-
-// An open transfer of 24 or 25.
-#[derive(Clone, Copy, Debug, PartialEq, Eq)]
-pub(crate) struct Transfer {
-    multiple: bool,
-    address: u32,
-    held: bool,
-}
-
-// Where no write is open row 5 has refused the call, and 42's is none of these: as a held one, whose silence is theirs too. An Option
-// would give that silence a second path.
-pub(crate) fn open_write(o: Open) -> Transfer
-    ensures { result ≡ parts o }
-{
-    let closed = Transfer {
-        multiple: false,
-        address: 0,
-        held: true,
-    };
-    match o {
-        Open::Write(sink) => match sink {
-            Sink::Single { address, held } => Transfer {
-                multiple: false,
-                address,
-                held,
-            },
-            Sink::Multiple { address, held } => Transfer {
-                multiple: true,
-                address,
-                held,
-            },
-            Sink::LockUnlock => closed,
-        },
-        Open::Nothing | Open::Read(_) | Open::Busy(_) => closed,
-    }
-}
 
 // The bit that holds a transfer at a place.
 fn hold_bit(top: u64, wp: bool, address: u32) -> Option<u8>
     ensures { result ≡ cond (outside top address) (Some Status.OUT_OF_RANGE) (cond wp (Some Status.WP_VIOLATION) None) }
 {
-    if top <= address as u64 {
+    if outside(top, address) {
         Some(OUT_OF_RANGE)
     } else if wp {
         Some(WP_VIOLATION)
@@ -72,30 +36,30 @@ fn hold_bit(top: u64, wp: bool, address: u32) -> Option<u8>
 }
 
 // A held transfer is silent until it is ended.
-fn hold(multiple: bool, address: u32) -> State
-    ensures { result ≡ Rcv (sink multiple address true) }
+fn hold(t: Transfer) -> State
+    ensures { result ≡ Rcv (sink t.multiple t.address true) }
 {
-    State::Rcv(sink(multiple, address, true))
+    State::Rcv(Sink::from(Transfer { held: true, ..t }))
 }
 
 // After a wrong check 25 is held, and 24 returns to tran.
-fn rejected(multiple: bool, address: u32) -> State
-    ensures { result ≡ cond multiple (Rcv (sink multiple address true)) Tran }
+fn rejected(t: Transfer) -> State
+    ensures { result ≡ cond t.multiple (Rcv (sink t.multiple t.address true)) Tran }
 {
-    if multiple {
-        hold(true, address)
-    } else {
-        State::Tran
-    }
+    if t.multiple { hold(t) } else { State::Tran }
 }
 
 // After a store 24 goes to prg, 25 on to the next block.
-fn accepted(multiple: bool, address: u32) -> State
-    requires { address < MOST * Sizes.BLOCK }
-    ensures { result ≡ cond multiple (Rcv (sink true (address + Sizes.BLOCK) false)) Prg }
+fn accepted(t: Transfer) -> State
+    requires { t.address < MOST * Sizes.BLOCK }
+    ensures { result ≡ cond t.multiple (Rcv (sink true (t.address + Sizes.BLOCK) false)) Prg }
 {
-    if multiple {
-        State::Rcv(sink(true, address + BLOCK, false))
+    if t.multiple {
+        State::Rcv(Sink::from(Transfer {
+            multiple: true,
+            address: t.address + BLOCK,
+            held: false,
+        }))
     } else {
         State::Prg
     }
@@ -119,19 +83,19 @@ pub(crate) fn write_into(
         };
     }
     if !right {
-        let next = with_state(card.core, rejected(t.multiple, t.address));
+        let next = with_state(card.core, rejected(t));
         return answered(card, next, Answer::Rejected);
     }
-    let all = whole(card.core.settings.permanent, card.core.settings.temporary);
+    let all = whole(card.core.settings);
     let mut marks = card.core.marks;
     let wp = guarded(all, &marks, t.address);
     if let Some(bit) = hold_bit(capacity(card.core.settings.blocks), wp, t.address) {
-        let next = with_state(raise(card.core, bit), hold(t.multiple, t.address));
+        let next = with_state(raise(card.core, bit), hold(t));
         return answered(card, next, Answer::Silence);
     }
     let store = Effect::Store { address: t.address };
     apply(all, store, payload, memory, &mut marks);
     let counted = with_written(card.core, card.core.written + 1);
-    let next = with_state(counted, accepted(t.multiple, t.address));
+    let next = with_state(counted, accepted(t));
     answered(card, next, Answer::Accepted)
 }

@@ -1,3 +1,2 @@
 -- What a call leaves, as the model's step has it.
 pub mod Seen
-pub mod Replied

@@ -2,9 +2,6 @@
 #![tactic(auto)]
 
 ghost use Rattle.std.specs.Prelude.{◌≡◌};
-ghost use Rattle.codec.specs.Answer.{encoded};
-ghost use Rattle.card.specs.Step.{answer};
-ghost use Rattle.card_call.specs.Replied.{replied};
 
 use card::answer::Answer;
 use card::{Card, Core, Password};
@@ -45,14 +42,4 @@ pub fn answered(card: Card, core: Core, answer: Answer) -> Stepped
     ensures { result ≡ record { answer = answer; card = record { core = core; password = card.password; line = card.line } } }
 {
     answered_with(card, core, card.password, answer)
-}
-
-// What an encoder answered: the bytes were sent, or its refusal.
-pub fn report(r: Result<usize, Refusal>) -> Answer
-    ensures { answer result ≡ replied (encoded r) }
-{
-    match r {
-        Ok(n) => Answer::Sent(n),
-        Err(refusal) => Answer::Refused(refusal),
-    }
 }

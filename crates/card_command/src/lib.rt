@@ -28,7 +28,7 @@ fn show(card: Card, turn: Turned, memory: &mut [u8], out: &mut [u8]) -> Stepped
     ensures { returned result memory.new out.new
         ≡ seen (show (world card memory.old) card.password out.old (turned turn)) }
 {
-    let all = whole(card.core.settings.permanent, card.core.settings.temporary);
+    let all = whole(card.core.settings);
     let mut marks = card.core.marks;
     apply(all, turn.effect, &[], memory, &mut marks);
     let answer = respond(turn.message, turn.core, card.line.com_crc_error, out);

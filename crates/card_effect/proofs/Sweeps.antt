@@ -21,15 +21,12 @@ module _ (all : Bool) (marks : List ℕ) (b e : ℕ) (m : List ℕ) where
   unfolding swept
   swept-end h = let z : e - b ≡ 0 = omega arith in ap (λ (k : ℕ). swept all marks b k m) z
 
--- none is kept, or all are
+-- none is kept
 pub zero_all : (p next : List ℕ) (kept : ℕ) → next ≡ zeroed (length p - kept) p → kept ≡ 0 → next ≡ replicate (length p) 0
 zero_all p next kept h z =
     let e : length p - kept ≡ length p = omega arith in
     let k : length p ≤ length p = omega arith in
     h ∙ ap (λ (n : ℕ). zeroed n p) e ∙ ap (λ (l : List ℕ). replicate (length p) 0 ++ l) (drop_of_length-le p k) ∙ append-nil (replicate (length p) 0)
-
-zero-none : (p : List ℕ) (n : ℕ) → length p ≤ n → zeroed (length p - n) p ≡ p
-zero-none p n h = let e : length p - n ≡ 0 = omega arith in ap (λ (k : ℕ). zeroed k p) e
 
 -- a part of memory that is lent, put back zeroed
 part-zeroed : (m : List ℕ) (a n : ℕ) → a + n ≤ length m
@@ -38,28 +35,14 @@ part-zeroed m a n h =
     let e : a + n - a ≡ n = omega arith in
     ap₂ (λ (k : ℕ) (l : List ℕ). take a m ++ (replicate k 0 ++ l)) (mid_len a (a + n) m h ∙ e) (Post-is a (a + n) m (omega arith))
 
--- the part that is lent for a block, put back kept or zeroed
-pub swept-part : (all : Bool) (marks : List ℕ) (b : ℕ) (m : List ℕ) (part : List ℕ) (kept : ℕ) → (b + 1) * BLOCK ≤ length m
-    → kept ≡ cond (guarded all marks (b * BLOCK)) BLOCK 0
-    → part ≡ zeroed (length (mid_of (b * BLOCK) (b * BLOCK + BLOCK - b * BLOCK) m) - kept) (mid_of (b * BLOCK) (b * BLOCK + BLOCK - b * BLOCK) m)
+-- a block that is not protected, zeroed in the part that is lent for it
+pub swept-part : (all : Bool) (marks : List ℕ) (b : ℕ) (m : List ℕ) (part : List ℕ) → (b + 1) * BLOCK ≤ length m
+    → guarded all marks (b * BLOCK) ≡ false
+    → part ≡ zeroed (length (mid_of (b * BLOCK) (b * BLOCK + BLOCK - b * BLOCK) m) - 0) (mid_of (b * BLOCK) (b * BLOCK + BLOCK - b * BLOCK) m)
     → put_mid (b * BLOCK) (b * BLOCK + BLOCK - b * BLOCK) m part ≡ swept_block all marks b m
 unfolding swept_block
-swept-part all marks b m part kept h g e =
-    ap (put_mid a (a + BLOCK - a) m) (e ∙ ap (λ (n : ℕ). zeroed (length mid - n) mid) g) ∙ picked (guarded all marks a)
-    ∙ ap (λ (n : ℕ). cond (guarded all marks a) m (take a m ++ (replicate BLOCK 0 ++ drop (a + n) m))) (sym (length-replicate {A = ℕ} BLOCK 0))
-  where
-    a : ℕ
-    a = b * BLOCK
-
-    mid : List ℕ
-    mid = mid_of a (a + BLOCK - a) m
-
-    size : length mid ≤ BLOCK
-    size = let n : length mid ≡ a + BLOCK - a = mid_len a (a + BLOCK) m (omega arith) in omega arith
-
-    zeros : List ℕ
-    zeros = take a m ++ (replicate BLOCK 0 ++ drop (a + BLOCK) m)
-
-    picked : (t : Bool) → put_mid a (a + BLOCK - a) m (zeroed (length mid - cond t BLOCK 0) mid) ≡ cond t m zeros
-    picked true = ap (put_mid a (a + BLOCK - a) m) (zero-none mid BLOCK size) ∙ put_same a (a + BLOCK - a) m
-    picked false = ap (put_mid a (a + BLOCK - a) m) (zero_all mid _ 0 refl refl) ∙ part-zeroed m a BLOCK (omega arith)
+swept-part all marks b m part h g e =
+    let a : ℕ = b * BLOCK in
+    ap (put_mid a (a + BLOCK - a) m) (zero_all (mid_of a (a + BLOCK - a) m) part 0 e refl) ∙ part-zeroed m a BLOCK (omega arith)
+    ∙ sym (ap (λ (t : Bool). cond t m (take a m ++ (replicate BLOCK 0 ++ drop (a + length {A = ℕ} (replicate BLOCK 0)) m))) g
+    ∙ ap (λ (n : ℕ). take a m ++ (replicate BLOCK 0 ++ drop (a + n) m)) (length-replicate {A = ℕ} BLOCK 0))

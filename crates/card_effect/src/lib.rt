@@ -18,21 +18,16 @@ fn zero(kept: usize, part: &mut [u8])
     part[..n].fill(0);
 }
 
-// A protected block is kept to its last byte.
-fn kept_bytes(guarded: bool) -> usize
-    ensures { result ≡ cond guarded Sizes.BLOCK 0 }
-{
-    if guarded { BLOCK as usize } else { 0 }
-}
-
 fn sweep_block(all: bool, marks: &[u8], memory: &mut [u8], block: u64)
     requires { (block < 2 ^ 33) × ((block + 1) * Sizes.BLOCK ≤ length memory.old) }
     ensures { memory.new ≡ swept_block all marks.now block memory.old }
 {
-    let kept = kept_bytes(guarded_block(all, marks, block));
+    if guarded_block(all, marks, block) {
+        return;
+    }
     let start = (block * BLOCK as u64) as usize;
     let end = start + BLOCK as usize;
-    zero(kept, &mut memory[start..end]);
+    zero(0, &mut memory[start..end]);
 }
 
 // Zeroes so many blocks from a number on, but for the protected ones.
@@ -62,7 +57,7 @@ fn store(address: u32, payload: &[u8], memory: &mut [u8])
     if memory.len() < end {
         return;
     }
-    codec::copy(&mut memory[start..end], payload);
+    memory[start..end].copy_from_slice(payload);
 }
 
 // Zeroes every block, protected or not, and every mark.

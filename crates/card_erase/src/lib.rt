@@ -34,12 +34,12 @@ pub fn settled(command: Command, c: Core) -> Core
 pub fn erase_start(c: Core, first: u32) -> Done
     ensures { result ≡ erase_start c first }
 {
-    let bit = address_check(capacity(c.settings.blocks), first);
+    let verdict = address_check(capacity(c.settings.blocks), first);
     let marks = EraseMarks {
         first: Some(first),
         second: None,
     };
-    checked(c, bit, ran(with_erase(c, marks), Response::R1))
+    checked(c, verdict, ran(with_erase(c, marks), Response::R1))
 }
 
 #[tactic(auto, unfolding(card::specs::Execute::erase_end))]
@@ -49,12 +49,12 @@ pub fn erase_end(c: Core, second: u32) -> Done
     if c.erase.first.is_none() {
         return ran(drop_erase(raise(c, ERASE_SEQ_ERROR)), Response::R1);
     }
-    let bit = address_check(capacity(c.settings.blocks), second);
+    let verdict = address_check(capacity(c.settings.blocks), second);
     let marks = EraseMarks {
         second: Some(second),
         ..c.erase
     };
-    checked(c, bit, ran(with_erase(c, marks), Response::R1))
+    checked(c, verdict, ran(with_erase(c, marks), Response::R1))
 }
 
 // A bit for protected blocks that are skipped.
@@ -62,7 +62,7 @@ pub fn erase_end(c: Core, second: u32) -> Done
 fn skipped(c: Core, first: u32, count: u32) -> Core
     ensures { result ≡ skipped c first count }
 {
-    let all = whole(c.settings.permanent, c.settings.temporary);
+    let all = whole(c.settings);
     if any_guarded(all, &c.marks, first, count) {
         raise(c, WP_ERASE_SKIP)
     } else {

@@ -27,7 +27,7 @@ fn cleared(response: Response, c: Core) -> Core
     }
 }
 
-// A command that ran; `state` is the number of the state at reception.
+// A command that ran; `state` is the number of the state at reception, and no State: it promises its answer for any number.
 pub fn finish(command: Command, state: u8, done: Done) -> Turned
     ensures { turned result ≡ finish command state done }
 {
@@ -63,14 +63,14 @@ fn chosen(done: Done) -> Done
 }
 
 // A command that ran on the record c, in the mode that it leaves.
-#[tactic(auto, unfolding(card::specs::Receive::shown_sd))]
+#[tactic(auto, unfolding(card::specs::Receive::shown_sd, card::specs::Table::row))]
 fn shown_sd(c: Core, low: bool, command: Command, done: Done) -> Turned
     ensures { turned result ≡ shown_sd c low command done }
 {
-    if low && card_table::index(command) == 0 {
+    if low && matches!(command, Command::GoIdleState) {
         finish_spi(c, command, chosen(done))
     } else {
-        finish(command, card_state::number(c.bus.state), done)
+        finish(command, u8::from(c.bus.state), done)
     }
 }
 

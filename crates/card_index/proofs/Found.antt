@@ -1,28 +1,21 @@
--- A command found in a list: where the search stands, the rest of the list gives what the whole does.
-use mathlib.Core.Path.{◌≡◌}
-use mathlib.Core.Bool.{Bool, true, false}
-use mathlib.Core.List.{List}
-use Prim.Native.Nat.{ℕ, ◌+◌, ◌≤◌, ◌<◌}
-use native.Mathlib.Numerals.{add-one}
-use lib.ListN.{length, drop, get_or, drop_of_length-le}
-use lib.Seq.{drop-cons}
+-- A command found in a list, as the library finds it.
+use mathlib.Core.Path.{◌≡◌, refl}
+use mathlib.Core.Bool.{Bool, true, false, cond}
+use mathlib.Core.List.{List, [], ◌∷◌}
+use Prim.Native.Nat.{ℕ}
+use Rattle.std.specs.Prelude.{Option}
+use Rattle.std.specs.Option.{unwrap_or}
+use Rattle.std.specs.List as Library
 use Rattle.card.specs.declared.command.Command.{Command}
 use Rattle.card.specs.Table.{fits, find}
 
-module _ (application : Bool) (index : ℕ) (own : Bool) (other : Command) (ks : List Command) (i : ℕ) where
-  abbrev rest : List Command → Command
-  rest l = find l application index own other
+module _ (application : Bool) (index : ℕ) (own : Bool) (other : Command) where
+  first : (k : Command) (ks : List Command) (b : Bool) → unwrap_or (Library.find (fits application index own) ks) other ≡ find ks application index own other
+      → unwrap_or (cond b (Option.Some k) (Library.find (fits application index own) ks)) other ≡ cond b k (find ks application index own other)
+  first k ks true h = refl
+  first k ks false h = h
 
-  -- the first of the rest fits, and is found
-  pub find-one : (d : Command) → i < length ks → fits application index own (get_or ks i d) ≡ true → rest (drop i ks) ≡ get_or ks i d
+  pub found-is : (ks : List Command) → unwrap_or (Library.find (fits application index own) ks) other ≡ find ks application index own other
   unfolding find
-  find-one d h e = rw (drop-cons ks i d h, e)
-
-  -- it does not, and the search goes on
-  pub find-next : (d : Command) → i < length ks → fits application index own (get_or ks i d) ≡ false → rest (drop i ks) ≡ rest (drop (i + 1) ks)
-  unfolding find
-  find-next d h e = rw (add-one, drop-cons ks i d h, e)
-
-  pub find-end : length ks ≤ i → rest (drop i ks) ≡ other
-  unfolding find
-  find-end h = rw (drop_of_length-le ks h)
+  found-is [] = refl
+  found-is (k ∷ ks) = first k ks (fits application index own k) (found-is ks)

@@ -2,6 +2,8 @@
 #![tactic(auto)]
 
 ghost use Rattle.std.specs.Prelude.{◌≡◌};
+ghost use Rattle.std.specs.Option.{unwrap_or};
+ghost use Rattle.card.specs.declared.command.Command.{Command};
 ghost use Rattle.card.specs.Table.{commands, is_application, takes, fits, find, own, command_of};
 
 use card::Bus;
@@ -33,9 +35,9 @@ fn fits(command: Command, application: bool, index: u8, own: bool) -> bool
     found.index == index && is_application(found.kind) == application && takes(found.rca, own)
 }
 
-// The first command with the index, or another.
-fn find(application: bool, index: u8, own: bool, other: Command) -> Command
-    ensures { result ≡ find commands application index own other }
+// The first command with the index.
+fn find(application: bool, index: u8, own: bool) -> Option<Command>
+    ensures { (other : Command) → unwrap_or result other ≡ find commands application index own other }
 {
     let all = [
         Command::GoIdleState,
@@ -71,12 +73,9 @@ fn find(application: bool, index: u8, own: bool, other: Command) -> Command
         Command::ReadOcr,
         Command::CrcOnOff,
     ];
-    for command in all {
-        if fits(command, application, index, own) {
-            return command;
-        }
-    }
-    other
+    all.iter()
+        .copied()
+        .find(|command| fits(*command, application, index, own))
 }
 
 // The argument's RCA is the card's; in SPI mode it is not compared.
@@ -93,9 +92,9 @@ pub fn command_of(bus: Bus, index: u8, argument: u32) -> Command
     ensures { result ≡ command_of bus index argument }
 {
     let mine = own(bus, argument);
-    let plain = find(false, index, mine, Command::Unknown);
+    let plain = find(false, index, mine).unwrap_or(Command::Unknown);
     if bus.app {
-        find(true, index, mine, plain)
+        find(true, index, mine).unwrap_or(plain)
     } else {
         plain
     }

@@ -2,7 +2,7 @@
 #![tactic(auto)]
 
 ghost use Rattle.std.specs.Prelude.{◌≡◌};
-ghost use Rattle.card.specs.Lock.{operation_of, operation, succeeds, changed};
+ghost use Rattle.card.specs.Lock.{operation, succeeds, changed};
 ghost use Rattle.card_lock.specs.Relock.{Room, relocked};
 
 mod block;
@@ -13,26 +13,10 @@ use card::lock::Operation;
 use card_password::{is_set, matches, no_password, replaces, store};
 use codec::behind;
 
-// Bits 3..0: ERASE, LOCK_UNLOCK, CLR_PWD, SET_PWD.
-#[tactic(auto, unfolding(card::specs::Lock::operation_of))]
-fn operation_of(byte: u8) -> Operation
-    ensures { result ≡ operation_of byte }
-{
-    match byte % 16 {
-        8 => Operation::ForceErase,
-        4 => Operation::Lock,
-        0 => Operation::Unlock,
-        2 => Operation::ClearPassword,
-        1 => Operation::SetPassword { lock: false },
-        5 => Operation::SetPassword { lock: true },
-        _ => Operation::Invalid,
-    }
-}
-
 pub fn operation(payload: &[u8]) -> Operation
     ensures { result ≡ operation payload.now }
 {
-    operation_of(byte_at(payload, 0))
+    Operation::from(byte_at(payload, 0))
 }
 
 #[tactic(auto, unfolding(card::specs::Lock::succeeds))]

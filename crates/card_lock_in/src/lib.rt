@@ -54,7 +54,7 @@ fn acted(o: Operation, c: Core) -> Core
 fn perform(card: Card, o: Operation, password: Password, memory: &mut [u8]) -> Stepped
     ensures { returned result memory.new [] ≡ performed card o password memory.old }
 {
-    let all = whole(card.core.settings.permanent, card.core.settings.temporary);
+    let all = whole(card.core.settings);
     let mut marks = card.core.marks;
     apply(all, effect_of(o), &[], memory, &mut marks);
     let next = with_state(acted(o, card.core), State::Prg);

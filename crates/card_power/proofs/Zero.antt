@@ -1,6 +1,5 @@
 -- The CID of the library's Default is all zero.
 use mathlib.Core.Path.{◌≡◌}
-use Prim.Native.Nat.{ℕ}
 use Rattle.reg_cid.specs.declared.cid.Cid.{Cid}
 use Rattle.card.specs.Step.{NO_CARD}
 

@@ -16,7 +16,6 @@ use card_refuse::{check, rows};
 use card_settings::{allowed, capacity};
 use card_status::no_bits;
 use codec::Refusal;
-use reg_cid::cid::Cid;
 
 // What commands see of it.
 fn fresh(settings: Settings, locked: bool) -> Core
@@ -60,14 +59,7 @@ fn start(settings: Settings, password: Password) -> Card
 pub fn unpowered() -> Card
     ensures { result ≡ unpowered }
 {
-    let settings = Settings {
-        blocks: 0,
-        polls: 0,
-        cid: Cid::default(),
-        permanent: false,
-        temporary: false,
-    };
-    start(settings, no_password())
+    start(Settings::default(), no_password())
 }
 
 // Power up. The record that was there stays where the call is refused.
@@ -75,12 +67,9 @@ pub fn power_up(card: Card, settings: Settings, password: Password, memory: &[u8
     ensures { returned result memory.now [] ≡ stepped card memory.now (power_up settings password) }
 {
     let r = Rows {
-        size: false,
-        unsound: false,
         memory: memory.len() as u64 != capacity(settings.blocks),
-        buffer: false,
-        closed: false,
         settings: !(allowed(settings) & (password.length <= PASSWORD)),
+        ..Rows::default()
     };
     if let Err(refusal) = check(&[Refusal::Memory, Refusal::Setting], r) {
         return refused(card, refusal);

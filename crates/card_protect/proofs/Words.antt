@@ -6,6 +6,7 @@ use Prim.Native.Nat.{ℕ, zero, suc, ◌+◌, ◌-◌, ◌*◌, ◌%◌, ◌^◌
 use native.Mathlib.Nat.{sub-add_cancel}
 use native.Mathlib.Omega.{arith}
 use lib.Bits.{bit_or, or_shifted}
+use mir.Val.{bool_byte as from_bool}
 use lib.Dec.{ltb}
 use lib.Pow.{mod-mod-pow}
 use lib.Seq.{append_snoc}
@@ -27,13 +28,15 @@ appended j word b h =
     low : word % 2 ^ 31 % 2 ^ j ≡ word % 2 ^ j
     low = ap (λ (x : ℕ). word % 2 ^ x % 2 ^ j) (sym (sub-add_cancel {n = 31} {m = j} (omega arith))) ∙ mod-mod-pow word (31 - j) j
 
-pub appended_one : (j word : ℕ) → j + 1 ≤ 32 → bits (j + 1) (bit_or (word * 2 ^ 1 % 2 ^ 32) 1) ≡ bits j word ++ (true ∷ [])
-appended_one j word h =
-    ap (bits (j + 1)) (ap (λ (x : ℕ). bit_or x 1) (shifted word 31 1) ∙ or_shifted (word % 2 ^ 31) 1 1 (omega arith))
-    ∙ appended j word true h
+flag : (b : Bool) → from_bool b ≡ digit b
+flag true = refl
+flag false = refl
 
-pub appended-zero : (j word : ℕ) → j + 1 ≤ 32 → bits (j + 1) (word * 2 ^ 1 % 2 ^ 32) ≡ bits j word ++ (false ∷ [])
-appended-zero j word h = ap (bits (j + 1)) (shifted word 31 1 ∙ omega arith) ∙ appended j word false h
+-- as the code has it
+pub appended-bit : (j word bit : ℕ) (b : Bool) → j + 1 ≤ 32 → bit ≡ from_bool b → bits (j + 1) (bit_or (word * 2 ^ 1 % 2 ^ 32) bit) ≡ bits j word ++ (b ∷ [])
+appended-bit j word bit b h e =
+    ap (bits (j + 1)) (ap₂ bit_or (shifted word 31 1) (e ∙ flag b) ∙ or_shifted (word % 2 ^ 31) 1 (digit b) (digit_lt b))
+    ∙ appended j word b h
 
 pub word_more : (n : ℕ) (marks : List ℕ) (g k word next : ℕ) (b : Bool) (all : List Bool) → 0 < k → k ≤ 32
     → ((j : ℕ) → j + 1 ≤ 32 → bits (j + 1) next ≡ bits j word ++ (b ∷ []))

@@ -4,8 +4,9 @@
 ghost use Rattle.std.specs.Prelude.{◌≡◌, ◌||◌, ◌&&◌, [], ◌∷◌, ◌++◌, ℕ, ◌+◌, ◌-◌, ◌*◌, ◌/◌, ◌<◌, ◌≤◌, ltb};
 ghost use Rattle.crc.specs.Bits.{bit, bits};
 ghost use Rattle.card.specs.Settings as Sizes;
-ghost use Rattle.card.specs.Protect.{group_of, marked, put_bit, mark, guarded, any_guarded, mark_bits};
+ghost use Rattle.card.specs.Protect.{whole, group_of, marked, put_bit, mark, guarded, any_guarded, mark_bits};
 
+use card::Settings;
 use card::size::{BLOCK, GROUP};
 use card_settings::groups;
 
@@ -29,10 +30,10 @@ fn put_bit(value: bool, k: u32, byte: u8) -> u8
 }
 
 // The permanent or temporary bit protects every block.
-pub fn whole(permanent: bool, temporary: bool) -> bool
-    ensures { result ≡ (permanent || temporary) }
+pub fn whole(s: Settings) -> bool
+    ensures { result ≡ whole s }
 {
-    permanent || temporary
+    s.permanent || s.temporary
 }
 
 // The group of a byte address.
@@ -62,7 +63,8 @@ pub fn mark(value: bool, marks: &mut [u8], group: u32)
     }
 }
 
-// The block at a byte address is protected, with the whole card or by its group.
+// The block at a byte address is protected, with the whole card or by its group. A struct of `all` and `marks` would be no plainer:
+// three callers would make it for one call each, and the fourth, `card_effect::apply`, is lent the marks to change them.
 #[tactic(auto, unfolding(card::specs::Protect::guarded))]
 pub fn guarded(all: bool, marks: &[u8], address: u32) -> bool
     ensures { result ≡ guarded all marks.now address }
@@ -70,7 +72,8 @@ pub fn guarded(all: bool, marks: &[u8], address: u32) -> bool
     all || marked(marks, u64::from(group_of(address)))
 }
 
-// The same by the number of the block; by its address a product could be too large for one.
+// The same by the number of the block. One function for both would be no plainer: each is a line over `marked`, callers of one by the
+// block would divide, and one by the address would promise less, as the last blocks' addresses are too large for a u64.
 #[tactic(auto, unfolding(card::specs::Protect::guarded))]
 pub fn guarded_block(all: bool, marks: &[u8], block: u64) -> bool
     ensures { result ≡ guarded all marks.now (block * Sizes.BLOCK) }
@@ -82,8 +85,8 @@ pub fn guarded_block(all: bool, marks: &[u8], block: u64) -> bool
 pub fn any_guarded(all: bool, marks: &[u8], first: u32, count: u32) -> bool
     ensures { result ≡ any_guarded all marks.now first count }
 {
-    let start = first as u64;
-    let end = start + count as u64;
+    let start = u64::from(first);
+    let end = start + u64::from(count);
     for block in start..end {
         if guarded_block(all, marks, block) {
             return true;
@@ -103,7 +106,7 @@ fn shown(count: u64, marks: &[u8], group: u64) -> bool
 fn append(word: u32, value: bool) -> u32
     ensures { (j : ℕ) → j + 1 ≤ 32 → bits (j + 1) result ≡ bits j word ++ (value ∷ []) }
 {
-    if value { (word << 1) | 1 } else { word << 1 }
+    (word << 1) | u32::from(value)
 }
 
 // The marks of 32 groups from that of an address on, the lowest bit first; groups past the end read 0.

@@ -16,7 +16,7 @@ use Rattle.card.specs.declared.answer.Answer.TheVariants.{Silence, Sent}
 use Rattle.card.specs.Frame as Frame
 use Rattle.card.specs.Step as Step
 use Rattle.card.specs.Step.{answer, wire, reply_of}
-use Rattle.card_call.specs.Replied.{replied}
+use Rattle.card.specs.Replied.{replied}
 use Rattle.card_respond.specs.declared.Behind.{Behind}
 use Rattle.card_respond.specs.Sent.{behind, Sends, Shows}
 

@@ -15,7 +15,7 @@ use Rattle.card.specs.Step.{Reply, answer, wire, reply_of, ROOM}
 use Rattle.card_respond.specs.declared.Behind.{Behind}
 use Rattle.card_respond.specs.declared.Behind.TheVariants.{Second, Word}
 use Rattle.card_respond.specs.declared.Message.{Message}
-use Rattle.card_respond.specs.declared.Message.TheVariants.{Sd, Spi, Error}
+use Rattle.card_respond.specs.declared.Message.TheVariants.{Silence, Sd, Spi, Error}
 
 -- a response as the model's message, with the address and the registers of the record that the frame came to
 abbrev pub message_by : Core → ℕ → ℕ → Response → Frame.Message
@@ -34,6 +34,7 @@ behind (Word word) = bytes 4 (bits 32 word)
 
 -- R1 of SPI mode has seven bits: bit 7 is 0
 abbrev pub message : Core → Message → Frame.Message
+message c Silence = Frame.silence
 message c (Sd response index word) = message_by c index word response
 message c (Spi r1 rest) = Frame.spi_r1 (r1 % 2 ^ 7) (behind rest)
 message c (Error byte) = Frame.plain (byte ∷ [])

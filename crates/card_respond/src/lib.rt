@@ -1,10 +1,7 @@
 // A message on the line: its response as a prefix of the output buffer.
 #![tactic(auto)]
 
-ghost use Rattle.std.specs.Prelude.{◌≡◌, ◌+◌, ◌%◌, ◌^◌, ◌≤◌, [], ◌∷◌, ◌++◌, length};
-ghost use Rattle.codec.specs.Format.{image};
-ghost use Rattle.wire_response.specs.Response.{r1, r2_bytes, r3, r6, r7};
-ghost use Rattle.wire_response.specs.Status.{short_status};
+ghost use Rattle.std.specs.Prelude.{◌≡◌, ◌+◌, ◌%◌, ◌^◌, ◌≤◌, ◌∷◌, length};
 ghost use Rattle.card.specs.Status.{at, shown};
 ghost use Rattle.card.specs.Spi.{COM_CRC_ERROR};
 ghost use Rattle.card.specs.Step.{answer};
@@ -13,7 +10,6 @@ ghost use Rattle.card_respond.specs.Sent.{behind, message_by, message, Sends, Sh
 use card::Core;
 use card::answer::Answer;
 use card::done::Response;
-use card_call::report;
 use codec::Refusal;
 use wire_response::status::short_status;
 use wire_response::{encode_r1, encode_r2, encode_r3, encode_r6, encode_r7};
@@ -30,6 +26,7 @@ pub enum Behind {
 
 #[derive(Clone, Copy)]
 pub enum Message {
+    Silence,
     // SD mode: the response of a command, with the index that R1 shows and the status of R1 and R6, which lacks COM_CRC_ERROR
     Sd {
         response: Response,
@@ -56,43 +53,7 @@ fn shown(crc: bool, word: u32) -> u32
     }
 }
 
-// The room is a clause of each: an array of 17 bytes would say it once, but the encoders take any slice, and the buffer would be
-// cut and joined again for it.
-fn send_r1(index: u8, word: u32, crc: bool, out: &mut [u8]) -> Answer
-    requires { 17 ≤ length out.old }
-    ensures { Sends (image (r1 index) (shown crc word ∷ [])) out.old out.new result }
-{
-    report(encode_r1(index & 63, shown(crc, word), out))
-}
-
-fn send_r6(rca: u16, word: u32, crc: bool, out: &mut [u8]) -> Answer
-    requires { 17 ≤ length out.old }
-    ensures { Sends (image r6 (rca ∷ (short_status (shown crc word) ∷ []))) out.old out.new result }
-{
-    report(encode_r6(rca, short_status(shown(crc, word)), out))
-}
-
-// R2: the sixteen bytes of a register, with its own check.
-fn send_r2(register: [u8; 16], out: &mut [u8]) -> Answer
-    requires { 17 ≤ length out.old }
-    ensures { Sends (r2_bytes register) out.old out.new result }
-{
-    report(encode_r2(&register, out))
-}
-
-fn send_r3(ocr: u32, out: &mut [u8]) -> Answer
-    requires { 17 ≤ length out.old }
-    ensures { Sends (image r3 (ocr ∷ [])) out.old out.new result }
-{
-    report(encode_r3(ocr, out))
-}
-
-fn send_r7(voltage: u8, pattern: u8, out: &mut [u8]) -> Answer
-    requires { 17 ≤ length out.old }
-    ensures { Sends (image r7 (voltage ∷ (pattern ∷ []))) out.old out.new result }
-{
-    report(encode_r7(voltage & 15, pattern, out))
-}
+// The room is a clause of each of these: an array of 17 bytes would be cut out of the buffer and joined again for it.
 
 // R6 shows the RCA of the record, R2 its registers. A voltage that 8 does not accept gets silence.
 fn emit_sd(response: Response, index: u8, word: u32, c: Core, crc: bool, out: &mut [u8]) -> Answer
@@ -101,16 +62,16 @@ fn emit_sd(response: Response, index: u8, word: u32, c: Core, crc: bool, out: &m
 {
     match response {
         Response::Nothing => Answer::Silence,
-        Response::R1 => send_r1(index, word, crc, out),
-        Response::R6 => send_r6(c.bus.rca, word, crc, out),
-        Response::Cid => send_r2(reg_cid::cid::sixteen(c.settings.cid), out),
-        Response::Csd => send_r2(reg_csd::sixteen(c.csd), out),
-        Response::R3(ocr) => send_r3(ocr, out),
+        Response::R1 => encode_r1(index & 63, shown(crc, word), out).into(),
+        Response::R6 => encode_r6(c.bus.rca, short_status(shown(crc, word)), out).into(),
+        Response::Cid => encode_r2(&reg_cid::cid::sixteen(c.settings.cid), out).into(),
+        Response::Csd => encode_r2(&reg_csd::sixteen(c.csd), out).into(),
+        Response::R3(ocr) => encode_r3(ocr, out).into(),
         Response::R7 { voltage, pattern } => {
             if voltage == 0 {
                 Answer::Silence
             } else {
-                send_r7(voltage, pattern, out)
+                encode_r7(voltage & 15, pattern, out).into()
             }
         }
     }
@@ -147,6 +108,7 @@ fn emit(m: Message, c: Core, crc: bool, out: &mut [u8]) -> Answer
     ensures { Shows crc (message c m) out.old out.new result }
 {
     match m {
+        Message::Silence => Answer::Silence,
         Message::Sd {
             response,
             index,

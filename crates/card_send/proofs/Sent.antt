@@ -12,7 +12,7 @@ use Rattle.card.specs.declared.Card.{Card}
 use Rattle.card_call.specs.declared.Stepped.{Stepped}
 use Rattle.card.specs.Step.{Reply, answer}
 use Rattle.card_call.specs.Seen.{Seen, returned}
-use Rattle.card_call.specs.Replied.{replied}
+use Rattle.card.specs.Replied.{replied}
 use Rattle.card_call.proofs.Turns.{after}
 use Rattle.card_send.specs.Sending.{sending, sent}
 

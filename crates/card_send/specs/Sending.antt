@@ -9,7 +9,7 @@ use Rattle.card.specs.Record.{with_state}
 use Rattle.card.specs.State.{in_spi}
 use Rattle.card.specs.Spi.{START_BLOCK}
 use Rattle.card_call.specs.Seen.{Seen}
-use Rattle.card_call.specs.Replied.{replied}
+use Rattle.card.specs.Replied.{replied}
 
 -- what leads a block: in SPI mode its start token
 abbrev pub leading : Bool → List ℕ

@@ -13,10 +13,10 @@ mod block;
 use block::encode_block;
 use card::answer::Answer;
 use card::{Card, Source, State};
-use card_call::{Stepped, answered, report};
+use card_call::{Stepped, answered};
 use card_protect::mark_word;
 use card_record::{raise, with_state};
-use card_state::in_spi;
+use card_state::{Transfer, in_spi};
 
 // The payload, and on to the next state.
 pub fn send(card: Card, next: State, payload: &[u8], out: &mut [u8]) -> Stepped
@@ -24,7 +24,7 @@ pub fn send(card: Card, next: State, payload: &[u8], out: &mut [u8]) -> Stepped
         → returned result memory out.new
         ≡ sent card next payload.now memory out.old }
 {
-    let answer = report(encode_block(in_spi(card.core.bus.mode), payload, out));
+    let answer = Answer::from(encode_block(in_spi(card.core.bus.mode), payload, out));
     answered(card, with_state(card.core, next), answer)
 }
 
@@ -84,14 +84,10 @@ pub fn send_cid(card: Card, out: &mut [u8]) -> Stepped
 }
 
 // A status bit by its number; the transfer is silent until it is ended.
-pub fn hold(card: Card, bit: u8, multiple: bool, address: u32) -> Stepped
-    ensures { (memory out : List ℕ) → returned result memory out ≡ turned card memory out (hold_read card.core multiple address bit) }
+pub fn hold(card: Card, bit: u8, t: Transfer) -> Stepped
+    ensures { (memory out : List ℕ) → returned result memory out ≡ turned card memory out (hold_read card.core t.multiple t.address bit) }
 {
-    let held = State::Data(Source::Blocks {
-        multiple,
-        address,
-        held: true,
-    });
+    let held = State::Data(Source::from(Transfer { held: true, ..t }));
     answered(
         card,
         with_state(raise(card.core, bit), held),

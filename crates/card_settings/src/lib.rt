@@ -5,6 +5,7 @@ ghost use Rattle.std.specs.Prelude.{◌≡◌, ◌+◌, ◌-◌, ◌*◌, ◌/�
 ghost use Rattle.card.specs.declared.Settings.{Settings};
 ghost use Rattle.card.specs.Settings.{address_of, allowed, csd_of};
 ghost use Rattle.card.specs.Settings as Sizes;
+ghost use Rattle.card.specs.Checks.{outside};
 ghost use Rattle.card.specs.Data.{without_temporary};
 
 pub mod register;
@@ -25,14 +26,21 @@ pub const POLLS: u8 = 15;
 pub fn capacity(blocks: u32) -> u64
     ensures { result ≡ blocks * Sizes.BLOCK }
 {
-    blocks as u64 * BLOCK as u64
+    u64::from(blocks) * u64::from(BLOCK)
+}
+
+// At or above capacity.
+pub fn outside(top: u64, address: u32) -> bool
+    ensures { result ≡ outside top address }
+{
+    top <= u64::from(address)
 }
 
 // How many protection groups so many blocks have; the last may be short.
 pub fn groups(blocks: u32) -> u64
     ensures { result ≡ (blocks + (Sizes.GROUP - 1)) / Sizes.GROUP }
 {
-    (blocks as u64 + (GROUP as u64 - 1)) / GROUP as u64
+    (u64::from(blocks) + u64::from(GROUP - 1)) / u64::from(GROUP)
 }
 
 // The byte address that the argument of a command means.
@@ -46,14 +54,13 @@ pub fn address_of(argument: u32) -> u32
 pub fn allowed(s: Settings) -> bool
     ensures { result ≡ allowed s }
 {
-    s.blocks >= LEAST
-        && s.blocks <= MOST
+    (LEAST..=MOST).contains(&s.blocks)
         && size_pair(s.blocks).is_some()
         && s.polls <= POLLS
         && reg_cid::cid::fit(s.cid)
 }
 
-// The CSD that the card gives.
+// The CSD that the card gives, field by field as the definition has it: with the zeros behind `..Csd::default()` its proof did not close.
 pub fn csd_of(s: Settings) -> Csd
     ensures { result ≡ csd_of s }
 {

@@ -22,7 +22,7 @@ fn bad_settings(c: Core) -> bool
 fn bad_length(length: u16) -> bool
     ensures { result ≡ not (leb 1 length && leb length Sizes.BLOCK) }
 {
-    !(length >= 1 && u32::from(length) <= BLOCK)
+    !(1..=BLOCK).contains(&u32::from(length))
 }
 
 // The settings, the polls left, the block length, and the transfer.
@@ -34,7 +34,7 @@ fn unsound_first(c: Core) -> bool
     bad_settings(c)
         || c.settings.polls < c.bus.polls
         || bad_length(c.length)
-        || capacity(c.settings.blocks) < card_state::transfer_address(open) as u64
+        || capacity(c.settings.blocks) < u64::from(card_state::transfer_address(open))
         || state::off_write(open)
 }
 

@@ -2,15 +2,11 @@
 ghost use Rattle.std.specs.Prelude.{◌≡◌};
 ghost use Rattle.card.specs.Soundness.{any_byte, marked_from};
 
-// Some byte is not zero. It looks at all of them, many at once: `any` would stop at the first.
+// Some byte is not zero.
 fn any_byte(marks: &[u8]) -> bool
     ensures { result ≡ any_byte marks.now }
 {
-    let mut found = false;
-    for byte in marks {
-        found = found | (*byte != 0);
-    }
-    found
+    marks.iter().any(|byte| *byte != 0)
 }
 
 // A mark of a group or of one behind it.

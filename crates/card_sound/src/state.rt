@@ -5,6 +5,7 @@ ghost use Rattle.card.specs.Soundness.{off_write, sink_most, written_most, mark_
 
 use card::size::BLOCK;
 use card::{Open, Sink, State};
+use card_settings::outside;
 use card_state::sink_address;
 
 // A write's address is no multiple of a block.
@@ -40,10 +41,7 @@ pub(crate) fn written_most(o: Open, n: u32) -> u32
 pub(crate) fn mark_outside(top: u64, mark: Option<u32>) -> bool
     ensures { result ≡ mark_outside top mark }
 {
-    match mark {
-        Some(address) => top <= u64::from(address),
-        None => false,
-    }
+    mark.is_some_and(|address| outside(top, address))
 }
 
 // In SD mode: the RCA is nonzero in idle, ready and ident, or zero in stby to dis; free in ina.

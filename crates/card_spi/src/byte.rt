@@ -27,7 +27,7 @@ const IN_IDLE_STATE: u8 = 0x01;
 fn bit(value: bool, weight: u8) -> u8
     ensures { (result ≡ digit value * weight) × (result ≤ weight) }
 {
-    if value { weight } else { 0 }
+    u8::from(value) * weight
 }
 
 // R1 without COM_CRC_ERROR, which the line adds.

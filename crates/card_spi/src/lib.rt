@@ -21,10 +21,11 @@ use card_status::join;
 use card_turn::{Turned, error, quiet};
 
 // 13 and A13 are answered by R2.
+#[tactic(auto, unfolding(card::specs::Table::row))]
 fn sends_r2(command: Command) -> bool
     ensures { result ≡ sends_r2 command }
 {
-    card_table::index(command) == 13
+    matches!(command, Command::SendStatus | Command::SdStatus)
 }
 
 // The four bytes of R7.
@@ -32,7 +33,7 @@ fn sends_r2(command: Command) -> bool
 fn echo(voltage: u8, pattern: u8) -> u32
     ensures { bytes 4 (bits 32 result) ≡ 0 ∷ (0 ∷ (voltage ∷ (pattern ∷ []))) }
 {
-    (voltage as u32) * 256 + (pattern as u32)
+    u32::from(voltage) * 256 + u32::from(pattern)
 }
 
 #[tactic(auto, unfolding(card::specs::Spi::behind_r1))]

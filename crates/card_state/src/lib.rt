@@ -1,28 +1,11 @@
-// The number of a state, the bus mode, and what a state has open: every question that is asked of a state goes by these.
+// The bus mode, and what a state has open: every question that is asked of a state goes by these.
 #![tactic(auto)]
 
 ghost use Rattle.std.specs.Prelude.{◌≡◌, ◌≤◌, eqb};
-ghost use Rattle.card.specs.State.{idle, number, arrive, in_spi, checking, unchecked, spi_number, number_in, open_of, reading, writing, busy, writing_multiple, locking, source_address, sink_address, transfer_address, sink};
+ghost use Rattle.card.specs.declared.Source.TheVariants.{Blocks};
+ghost use Rattle.card.specs.State.{idle, number, arrive, in_spi, checking, unchecked, number_in, open_of, reading, writing, busy, writing_multiple, locking, source_address, sink_address, transfer_address, sink};
 
 use card::{Mode, Open, Sink, Source, State};
-
-// No From<State> for u8: it would stand in card, which has no code, and callers need the bound of 9.
-pub fn number(s: State) -> u8
-    ensures { (result ≡ number s) × (result ≤ 9) }
-{
-    match s {
-        State::Idle => 0,
-        State::Ready => 1,
-        State::Ident => 2,
-        State::Stby => 3,
-        State::Tran => 4,
-        State::Data(_) => 5,
-        State::Rcv(_) => 6,
-        State::Prg => 7,
-        State::Dis => 8,
-        State::Ina => 9,
-    }
-}
 
 pub fn in_idle(s: State) -> bool
     ensures { result ≡ eqb (number s) idle }
@@ -30,7 +13,7 @@ pub fn in_idle(s: State) -> bool
     matches!(s, State::Idle)
 }
 
-// The state of a number; data and rcv are the transfer that t is.
+// The state of a number, as the transition table has them; of any other it is ina. Data and rcv are the transfer that t is.
 #[tactic(auto, unfolding(card::specs::State::arrive))]
 pub fn arrive(n: u8, t: State) -> State
     ensures { result ≡ arrive n t }
@@ -74,10 +57,15 @@ pub fn unchecked(m: Mode) -> Mode
     }
 }
 
-// What counts of a state in SPI mode.
-fn spi_number(s: State) -> u8
-    ensures { (result ≡ spi_number s) × (result ≤ 9) }
+// The number by which the table of a mode goes: in SPI mode that of what counts there. No type of its own for a number up to 9: `arrive`
+// and `status` promise their answer for any.
+#[tactic(auto, unfolding(card::specs::State::number_in))]
+pub fn number_in(spi: bool, s: State) -> u8
+    ensures { (result ≡ number_in spi s) × (result ≤ 9) }
 {
+    if !spi {
+        return u8::from(s);
+    }
     match s {
         State::Idle => 0,
         State::Ready | State::Ident | State::Stby | State::Tran | State::Ina => 4,
@@ -87,12 +75,48 @@ fn spi_number(s: State) -> u8
     }
 }
 
-// The number by which the table of a mode goes.
-#[tactic(auto, unfolding(card::specs::State::number_in))]
-pub fn number_in(spi: bool, s: State) -> u8
-    ensures { (result ≡ number_in spi s) × (result ≤ 9) }
-{
-    if spi { spi_number(s) } else { number(s) }
+// A transfer of blocks, of 17, 18, 24 or 25. A held one is silent until it is ended.
+#[derive(Clone, Copy)]
+pub struct Transfer {
+    pub multiple: bool,
+    pub address: u32,
+    pub held: bool,
+}
+
+// Of 17 and 18.
+impl From<Transfer> for Source {
+    ghost from_gives = { λ t source. source ≡ Blocks t.multiple t.address t.held };
+
+    fn from(t: Transfer) -> Source {
+        let Transfer {
+            multiple,
+            address,
+            held,
+        } = t;
+        Source::Blocks {
+            multiple,
+            address,
+            held,
+        }
+    }
+}
+
+// Of 24 and 25.
+impl From<Transfer> for Sink {
+    ghost from_gives = { λ t to. to ≡ sink t.multiple t.address t.held };
+
+    fn from(t: Transfer) -> Sink {
+        let Transfer {
+            multiple,
+            address,
+            held,
+        } = t;
+        if multiple {
+            Sink::Multiple { address, held }
+        } else {
+            Sink::Single { address, held }
+        }
+    }
 }
 
 pub fn open(s: State) -> Open
@@ -157,7 +181,7 @@ pub fn sink_address(s: Sink) -> u32
     }
 }
 
-// The transfer's address; 0 where there is none.
+// The transfer's address; 0 where there is none, and no Option: the model has the 0 too, and every test of the address passes it.
 pub fn transfer_address(o: Open) -> u32
     ensures { result ≡ transfer_address o }
 {
@@ -165,16 +189,5 @@ pub fn transfer_address(o: Open) -> u32
         Open::Read(source) => source_address(source),
         Open::Write(sink) => sink_address(sink),
         Open::Nothing | Open::Busy(_) => 0,
-    }
-}
-
-// The write transfer of 24, or of 25.
-pub fn sink(multiple: bool, address: u32, held: bool) -> Sink
-    ensures { result ≡ sink multiple address held }
-{
-    if multiple {
-        Sink::Multiple { address, held }
-    } else {
-        Sink::Single { address, held }
     }
 }

@@ -8,7 +8,8 @@ ghost use Rattle.card.specs.Status.{only, no_bits, join, without_illegal};
 
 use card::Kept;
 
-// The standard's numbers, and no enum of them: `only` promises its answer for any number, and an enum would ask more of callers.
+// Places in the word, by the standard's names. No enum: `only`, `raise`, `checked` and `hold` promise their answer for any number, wrong
+// programs hand the first two 0, and an enum beside them would be turned into its number at each use.
 pub const OUT_OF_RANGE: u8 = 31;
 
 pub const ADDRESS_ERROR: u8 = 30;
@@ -52,18 +53,7 @@ pub fn only(n: u8) -> Kept
 pub fn no_bits() -> Kept
     ensures { result ≡ no_bits }
 {
-    Kept {
-        out_of_range: false,
-        address_error: false,
-        block_len_error: false,
-        erase_seq_error: false,
-        erase_param: false,
-        wp_violation: false,
-        lock_unlock_failed: false,
-        illegal_command: false,
-        wp_erase_skip: false,
-        erase_reset: false,
-    }
+    Kept::default()
 }
 
 // The bits of both.

@@ -15,7 +15,7 @@ fn bit(value: bool, n: u8) -> u32
     requires { n < 32 }
     ensures { (result ≡ at n value) × (result ≤ 2 ^ n) }
 {
-    if value { 1 << n } else { 0 }
+    u32::from(value) << n
 }
 
 // READY_FOR_DATA

@@ -6,8 +6,12 @@ use Prim.Native.Nat.{ℕ, zero, suc, ◌+◌, ◌*◌, ◌/◌, ◌%◌, ◌^◌
 use native.Mathlib.Nat.{div-div-eq-div-mul, zero-add}
 use native.Mathlib.Omega.{arith}
 use borrow.Author.Tests.{ltb-true, ne_eqb}
+use lib.Bits.{bit_and, and_mask}
 use lib.Dec.{eqb, ltb}
 use lib.Pow.{pow-add}
+use Rattle.std.specs.Prelude.{Option}
+use Rattle.std.specs.Bool.{then_some}
+use Rattle.std.specs.Option.{is_some, unwrap_or}
 use Rattle.card.specs.declared.command.Command.{Command}
 use Rattle.card.specs.declared.command.Command.TheVariants.{GoIdleState, AllSendCid, SendRelativeAddr, SelectCard, DeselectCard, SendIfCond, SendCsd, SendCid, StopTransmission, SendStatus, AppCmd, GoInactiveState, SetBlocklen, ReadSingleBlock, ReadMultipleBlock, SendWriteProt, WriteBlock, WriteMultipleBlock, LockUnlock, SetWriteProt, ClrWriteProt, Erase, EraseWrBlkStart, EraseWrBlkEnd, SdStatus, SendNumWrBlocks, SendScr, SetWrBlkEraseCount, SetClrCardDetect, SdSendOpCond, ReadOcr, CrcOnOff, Unknown}
 use Rattle.card.specs.declared.Bus.{Bus}
@@ -15,7 +19,7 @@ use Rattle.card.specs.declared.State.{State}
 use Rattle.card.specs.State.{in_spi, number_in, arrive}
 use Rattle.card.specs.Table.{Move, row, moves, has, lead, legal, after}
 use Rattle.card_table.specs.declared.Columns.{Columns}
-use Rattle.card_table.specs.Packed.{lead_or, packed, packed_row}
+use Rattle.card_table.specs.Packed.{lead_or, move_from, packed, packed_row}
 
 -- every state that the moves lead to is below 15, which stands for none
 low : List Move → Bool
@@ -90,24 +94,6 @@ unfolding has lead
 lead-stays [] n h = refl
 lead-stays (m ∷ ms) n h = stays_at (eqb m.from n) m.to (lead ms n) n (has ms n) (lead-stays ms n) h
 
-none_at : (t : Bool) (x : ℕ) → (t ≡ true → x < 15) → not (eqb (cond t x 15) 15) ≡ t
-none_at true x h = ap not (ne_eqb x 15 (λ e. omega (arith, h refl)))
-none_at false x h = refl
-
--- allowed where the digit is not 15
-lead-none : (ms : List Move) (n : ℕ) → low ms ≡ true → not (eqb (lead_or ms n) 15) ≡ has ms n
-unfolding lead_or
-lead-none ms n l = none_at (has ms n) (lead ms n) (lead_low ms n l)
-
-there_at : (t : Bool) (x n : ℕ) → (t ≡ true → x < 15) → (t ≡ false → x ≡ n) → cond (eqb (cond t x 15) 15) n (cond t x 15) ≡ x
-there_at true x n h g = ap (λ (b : Bool). cond b n x) (ne_eqb x 15 (λ e. omega (arith, h refl)))
-there_at false x n h g = sym (g refl)
-
--- the state that it leads to
-lead_there : (ms : List Move) (n : ℕ) → low ms ≡ true → cond (eqb (lead_or ms n) 15) n (lead_or ms n) ≡ lead ms n
-unfolding lead_or
-lead_there ms n l = there_at (has ms n) (lead ms n) n (lead_low ms n l) (lead-stays ms n)
-
 -- ---- digits
 
 below_at : (t : Bool) (x : ℕ) → (t ≡ true → x < 15) → cond t x 15 < 16
@@ -155,11 +141,34 @@ unfolding moves
 digit_in k true r n e h = ap (λ (x : Columns). x.spi / 2 ^ (4 * n) % 16) e ∙ digit_of (row k).spi (low-row k).1 n h
 digit_in k false r n e h = ap (λ (x : Columns). x.sd / 2 ^ (4 * n) % 16) e ∙ digit_of (row k).sd (low-row k).0 n h
 
-module _ (k : Command) (b : Bus) (spi : Bool) (n to : ℕ) (p : spi ≡ in_spi b.mode) (q : n ≡ number_in spi b.state) (r : to ≡ lead_or (moves spi k) n) where
-  pub legal_by : not (eqb to 15) ≡ legal k b
-  unfolding legal
-  legal_by = rw (r, lead-none (moves spi k) n (low_in spi k), q, p)
+-- the digit of a row, by the word that the mode has
+pub digit_by : (k : Command) (spi : Bool) (r : Columns) (n w : ℕ) → r ≡ packed_row k → n ≤ 9 → w ≡ cond spi r.spi r.sd
+    → bit_and (w / 2 ^ (4 * n)) 15 ≡ lead_or (moves spi k) n
+digit_by k spi r n w e h p =
+    and_mask (w / 2 ^ (4 * n)) 4 ∙ ap (λ (x : ℕ). x / 2 ^ (4 * n) % 16) p ∙ digit_in k spi r n e h
 
-  pub after_by : (t : State) → arrive (cond (eqb to 15) n to) t ≡ after k b t
+led_at : (t : Bool) (x : ℕ) → (t ≡ true → x < 15) → then_some (not (eqb (cond t x 15) 15)) (cond t x 15) ≡ then_some t x
+led_at true x h = ap (λ (b : Bool). then_some (not b) x) (ne_eqb x 15 (λ e. omega (arith, h refl)))
+led_at false x h = refl
+
+-- F is none
+pub led_by : (k : Command) (spi : Bool) (n d : ℕ) → d ≡ lead_or (moves spi k) n → then_some (not (eqb d 15)) d ≡ move_from (moves spi k) n
+unfolding lead_or
+led_by k spi n d e = rw e (led_at (has (moves spi k) n) (lead (moves spi k) n) (lead_low (moves spi k) n (low_in spi k)))
+
+some_at : (t : Bool) (x : ℕ) → is_some (then_some t x) ≡ t
+some_at true x = refl
+some_at false x = refl
+
+or_at : (t : Bool) (x n : ℕ) → (t ≡ false → x ≡ n) → unwrap_or (then_some t x) n ≡ x
+or_at true x n h = refl
+or_at false x n h = sym (h refl)
+
+module _ (k : Command) (b : Bus) (spi : Bool) (n : ℕ) (to : Option ℕ) (p : spi ≡ in_spi b.mode) (q : n ≡ number_in spi b.state) (r : to ≡ move_from (moves spi k) n) where
+  pub legal_by : is_some to ≡ legal k b
+  unfolding legal
+  legal_by = rw (r, some_at (has (moves spi k) n) (lead (moves spi k) n), q, p)
+
+  pub after_by : (t : State) → arrive (unwrap_or to n) t ≡ after k b t
   unfolding after
-  after_by t = rw (r, lead_there (moves spi k) n (low_in spi k), q, p)
+  after_by t = rw (r, or_at (has (moves spi k) n) (lead (moves spi k) n) n (lead-stays (moves spi k) n), q, p)

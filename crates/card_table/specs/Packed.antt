@@ -1,5 +1,6 @@
 -- A row of the transition table as the code has it: its moves in a mode are one number, a hex digit for each state.
-use Rattle.std.specs.Prelude.{cond, List, ℕ, zero, suc, ◌+◌, ◌*◌}
+use Rattle.std.specs.Prelude.{cond, List, ℕ, zero, suc, ◌+◌, ◌*◌, Option}
+use Rattle.std.specs.Bool.{then_some}
 use Rattle.card.specs.declared.command.Command.{Command}
 use Rattle.card.specs.Table.{Move, has, lead, row}
 use Rattle.card_table.specs.declared.Columns.{Columns}
@@ -7,6 +8,10 @@ use Rattle.card_table.specs.declared.Columns.{Columns}
 -- the state that a row leads to; 15 where it has no move
 unfoldable pub lead_or : List Move → ℕ → ℕ
 lead_or ms s = cond (has ms s) (lead ms s) 15
+
+-- the state that a row leads to, if it has a move
+abbrev pub move_from : List Move → ℕ → Option ℕ
+move_from ms s = then_some (has ms s) (lead ms s)
 
 -- the digits of k states from one on, the first the lowest
 unfoldable pub packed : List Move → ℕ → ℕ → ℕ

@@ -1,9 +1,9 @@
 // The transition table: a row for each command.
 #![tactic(auto)]
 
-ghost use Rattle.std.specs.Prelude.{◌≡◌, ◌*◌, ◌/◌, ◌%◌, ◌^◌, ◌≤◌};
+ghost use Rattle.std.specs.Prelude.{◌≡◌, ◌≤◌};
 ghost use Rattle.card.specs.Table.{row, moves, shows_app, sets_app, misses, accepts, legal, after};
-ghost use Rattle.card_table.specs.Packed.{lead_or, packed_row};
+ghost use Rattle.card_table.specs.Packed.{move_from, packed_row};
 
 use card::command::{Command, Kind, Rca};
 use card::{Bus, State};
@@ -18,8 +18,8 @@ pub struct Columns {
     pub keeps_erase: bool,
     // a locked card accepts it
     pub when_locked: bool,
-    // moves in either bus mode, a hex digit for each state, ina first, idle last: the number of the state that it leads to, F where none;
-    // numbers and no arrays, as packed_row, in what row promises, has them
+    // moves in either bus mode, a hex digit for each state, ina first, idle last: the number of the state that it leads to, F where none:
+    // a row of the table is one line, and all moves of a command are seen at a glance
     pub sd: u64,
     pub spi: u64,
 }
@@ -202,26 +202,15 @@ pub fn index(command: Command) -> u8
     row(command).index
 }
 
-// F of a packed row, as `packed_row` has it.
-const NONE: u8 = 15;
-
-fn digit(moves: u64, from: u8) -> u8
+// A digit of the row's moves; F is none.
+fn lead(command: Command, spi: bool, from: u8) -> Option<u8>
     requires { from ≤ 9 }
-    ensures { result ≡ moves / 2 ^ (4 * from) % 16 }
-{
-    ((moves >> (4 * from)) & 15) as u8
-}
-
-fn lead(command: Command, spi: bool, from: u8) -> u8
-    requires { from ≤ 9 }
-    ensures { result ≡ lead_or (moves spi command) from }
+    ensures { result ≡ move_from (moves spi command) from }
 {
     let found = row(command);
-    if spi {
-        digit(found.spi, from)
-    } else {
-        digit(found.sd, from)
-    }
+    let moves = if spi { found.spi } else { found.sd };
+    let to = ((moves >> (4 * from)) & 0xF) as u8;
+    (to != 0xF).then_some(to)
 }
 
 // In this bus mode and state.
@@ -229,7 +218,7 @@ pub fn legal(command: Command, bus: Bus) -> bool
     ensures { result ≡ legal command bus }
 {
     let spi = in_spi(bus.mode);
-    lead(command, spi, number_in(spi, bus.state)) != NONE
+    lead(command, spi, number_in(spi, bus.state)).is_some()
 }
 
 // The state after a command, with transfer t where it opens one.
@@ -238,10 +227,5 @@ pub fn after(command: Command, bus: Bus, t: State) -> State
 {
     let spi = in_spi(bus.mode);
     let from = number_in(spi, bus.state);
-    let to = lead(command, spi, from);
-    if to == NONE {
-        arrive(from, t)
-    } else {
-        arrive(to, t)
-    }
+    arrive(lead(command, spi, from).unwrap_or(from), t)
 }

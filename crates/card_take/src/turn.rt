@@ -13,50 +13,47 @@ use card_call::Stepped;
 use card_send::{hold, send, send_cid, send_csd, send_marks, send_scr, send_status, send_word};
 use card_settings::capacity;
 use card_start::checks::read_check;
+use card_state::Transfer;
 
 // 18 goes on behind the block, 17 returns to tran.
-fn behind(multiple: bool, address: u32) -> State
-    ensures { result ≡ cond multiple (Data (Blocks true address false)) Tran }
+fn behind(t: Transfer) -> State
+    ensures { result ≡ cond t.multiple (Data (Blocks true t.address false)) Tran }
 {
-    if multiple {
-        State::Data(Source::Blocks {
+    if t.multiple {
+        State::Data(Source::from(Transfer {
             multiple: true,
-            address,
             held: false,
-        })
+            ..t
+        }))
     } else {
         State::Tran
     }
 }
 
 // 17 and 18. What the start check of a read would refuse holds it: past the end, or across a boundary.
-fn take_blocks(
-    card: Card,
-    memory: &[u8],
-    out: &mut [u8],
-    multiple: bool,
-    address: u32,
-    held: bool,
-) -> Stepped
+fn take_blocks(t: Transfer, card: Card, memory: &[u8], out: &mut [u8]) -> Stepped
     requires { Takes card.core memory.now out.old }
     ensures { returned result memory.now out.new
-        ≡ turned card memory.now out.old (led card.core.bus.mode (take_source (Blocks multiple address held) card.core memory.now)) }
+        ≡ turned card memory.now out.old (led card.core.bus.mode (take_source (Blocks t.multiple t.address t.held) card.core memory.now)) }
 {
-    if held {
+    if t.held {
         return Stepped {
             answer: Answer::Silence,
             card,
         };
     }
     let length = card.core.length;
-    if let Some(bit) = read_check(capacity(card.core.settings.blocks), length, address) {
-        return hold(card, bit, multiple, address);
+    if let Err(bit) = read_check(capacity(card.core.settings.blocks), length, t.address) {
+        return hold(card, bit, t);
     }
-    let start = address as usize;
+    let start = t.address as usize;
     let end = start + length as usize;
     send(
         card,
-        behind(multiple, address + length as u32),
+        behind(Transfer {
+            address: t.address + length as u32,
+            ..t
+        }),
         &memory[start..end],
         out,
     )
@@ -72,7 +69,14 @@ pub(crate) fn take_source(source: Source, card: Card, memory: &[u8], out: &mut [
             multiple,
             address,
             held,
-        } => take_blocks(card, memory, out, multiple, address, held),
+        } => {
+            let t = Transfer {
+                multiple,
+                address,
+                held,
+            };
+            take_blocks(t, card, memory, out)
+        }
         Source::WriteProtect { address } => send_marks(card, address, out),
         Source::SdStatus => send_status(card, out),
         Source::WrittenBlocks => send_word(card, card.core.written, out),

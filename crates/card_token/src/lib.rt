@@ -33,7 +33,7 @@ pub enum Arrived {
 pub fn token_size(m: Mode) -> usize
     ensures { (result ≡ token_size m) × (result ≤ 1) }
 {
-    if in_spi(m) { 1 } else { 0 }
+    usize::from(in_spi(m))
 }
 
 // The bytes of a packet that comes in: for 42 its payload has the set length.

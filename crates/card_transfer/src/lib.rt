@@ -19,13 +19,13 @@ use card_settings::capacity;
 use card_start::checks::{address_check, checked, read_check, write_check};
 use card_start::done::ran;
 use card_start::moves::{moved, opening};
-use card_state::sink;
+use card_state::Transfer;
 use card_status::BLOCK_LEN_ERROR;
 
 pub fn set_blocklen(c: Core, argument: u32) -> Done
     ensures { result ≡ set_blocklen c argument }
 {
-    if argument < 1 || argument > BLOCK {
+    if !(1..=BLOCK).contains(&argument) {
         return ran(raise(c, BLOCK_LEN_ERROR), Response::R1);
     }
     ran(with_length(c, argument as u16), Response::R1)
@@ -60,31 +60,35 @@ pub fn lock_unlock(c: Core) -> Done
 pub fn read_blocks(command: Command, c: Core, multiple: bool, address: u32) -> Done
     ensures { result ≡ read_blocks command c multiple address }
 {
-    let bit = read_check(capacity(c.settings.blocks), c.length, address);
-    let source = Source::Blocks {
+    let verdict = read_check(capacity(c.settings.blocks), c.length, address);
+    let source = Source::from(Transfer {
         multiple,
         address,
         held: false,
-    };
-    checked(c, bit, send(command, c, source, Response::R1))
+    });
+    checked(c, verdict, send(command, c, source, Response::R1))
 }
 
 pub fn write_blocks(command: Command, c: Core, multiple: bool, address: u32) -> Done
     ensures { result ≡ write_blocks command c multiple address }
 {
-    let all = whole(c.settings.permanent, c.settings.temporary);
+    let all = whole(c.settings);
     let wp = guarded(all, &c.marks, address);
-    let bit = write_check(capacity(c.settings.blocks), c.length, wp, address);
-    let t = State::Rcv(sink(multiple, address, false));
-    let next = with_written(opening(command, c, t), 0);
-    checked(c, bit, ran(next, Response::R1))
+    let verdict = write_check(capacity(c.settings.blocks), c.length, wp, address);
+    let sink = Sink::from(Transfer {
+        multiple,
+        address,
+        held: false,
+    });
+    let next = with_written(opening(command, c, State::Rcv(sink)), 0);
+    checked(c, verdict, ran(next, Response::R1))
 }
 
 // 28 and 29.
 pub fn set_mark(command: Command, c: Core, value: bool, address: u32) -> Done
     ensures { result ≡ set_mark command c value address }
 {
-    let bit = address_check(capacity(c.settings.blocks), address);
+    let verdict = address_check(capacity(c.settings.blocks), address);
     let done = Done {
         core: moved(command, c),
         response: Response::R1,
@@ -93,7 +97,7 @@ pub fn set_mark(command: Command, c: Core, value: bool, address: u32) -> Done
             value,
         },
     };
-    checked(c, bit, done)
+    checked(c, verdict, done)
 }
 
 // 30.
@@ -102,11 +106,11 @@ pub fn send_write_prot(c: Core, address: u32) -> Done
         ≡ checked c (address_checks (capacity c.settings) address)
         (ran (opening Command.SendWriteProt c (Data (WriteProtect address))) R1) }
 {
-    let bit = address_check(capacity(c.settings.blocks), address);
+    let verdict = address_check(capacity(c.settings.blocks), address);
     let source = Source::WriteProtect { address };
     checked(
         c,
-        bit,
+        verdict,
         send(Command::SendWriteProt, c, source, Response::R1),
     )
 }

@@ -7,7 +7,7 @@ ghost use Rattle.card.specs.Frame.{plain, quiet, said};
 ghost use Rattle.card.specs.Step.{flagged};
 ghost use Rattle.card_turn.specs.Turned.{turned};
 
-use card::done::{Effect, Flag, Response};
+use card::done::{Effect, Flag};
 use card::{Card, Core, Line, Password};
 use card_record::with_marks;
 use card_respond::Message;
@@ -20,18 +20,14 @@ pub struct Turned {
     pub effect: Effect,
 }
 
-// Silence, by a response of nothing, whose index and word are not looked at; memory and marks stay.
+// Memory and marks stay.
 pub fn quiet(c: Core, flag: Flag) -> Turned
     ensures { turned result ≡ quiet c flag }
 {
     Turned {
         core: c,
         flag,
-        message: Message::Sd {
-            response: Response::Nothing,
-            index: 0,
-            word: 0,
-        },
+        message: Message::Silence,
         effect: Effect::Nothing,
     }
 }

@@ -1,7 +1,7 @@
 // What the encoders and decoders share: why a call is refused, and words of bits built and taken apart by shifts and masks.
 #![tactic(auto)]
 
-ghost use Rattle.std.specs.Prelude.{◌≡◌, [], ◌∷◌, ◌++◌, true, ◌*◌, ◌/◌, ◌%◌, ◌^◌, length, take, drop};
+ghost use Rattle.std.specs.Prelude.{◌≡◌, [], ◌∷◌, ◌++◌, true, cond, ltb, ◌*◌, ◌/◌, ◌%◌, ◌^◌, length, take, drop};
 ghost use Rattle.crc.specs.Bits.{bits, number, bits_of, bytes};
 ghost use Rattle.crc.specs.Crc.{crc, poly7};
 ghost use Rattle.codec.specs.Answer.{row_of};
@@ -40,6 +40,19 @@ impl From<Refusal> for u8 {
     }
 }
 
+// Rows 4 and 8: whether an encoder may write. Its buffer has room for the longest answer, an R2 of 17 bytes, and each field fits.
+pub fn writable(fits: bool, room: usize) -> Result<(), Refusal>
+    ensures { result ≡ cond (ltb room 17) (Err Refusal.Buffer) (cond fits (Ok tt) (Err Refusal.Field)) }
+{
+    if room < 17 {
+        return Err(Refusal::Buffer);
+    }
+    if !fits {
+        return Err(Refusal::Field);
+    }
+    Ok(())
+}
+
 // `width` more bits behind those of `high`.
 pub fn join(high: u64, width: u32, low: u64) -> u64
     ensures { result ≡ joined 64 high width low }
@@ -74,8 +87,8 @@ pub fn word(s: &[u8]) -> u64
     r
 }
 
-// The number of up to four bytes; of more, the last four count. Frames are words of 32 bits, by shifts and masks on bytes and u32; one
-// function over both widths would take a trait of shifts, masks and casts, and be longer than these two.
+// The number of up to four bytes; of more, the last four count. A word of 32 bits is read with shifts and masks on u32, the form that
+// was asked for.
 pub fn word32(s: &[u8]) -> u32
     ensures { result ≡ number (bits_of s.now) % 2 ^ 32 }
 {
@@ -91,17 +104,19 @@ pub fn put(out: &mut [u8], value: u64)
     ensures { out.new ≡ bytes (length out.old) (bits (8 * length out.old) value) }
 {
     let mut v: u64 = value;
+    // By index: a proof knows nothing of what is written through `iter_mut().rev()`.
     for i in (0..out.len()).rev() {
         out[i] = (v & 0xFF) as u8;
         v = v >> 8;
     }
 }
 
-// Of a word of 32 bits, as `word32`.
+// The same of a word of 32 bits, with shifts and masks on u32, the form that was asked for.
 pub fn put32(out: &mut [u8], value: u32)
     ensures { out.new ≡ bytes (length out.old) (bits (8 * length out.old) value) }
 {
     let mut v: u32 = value;
+    // By index, as in `put`.
     for i in (0..out.len()).rev() {
         out[i] = (v & 0xFF) as u8;
         v = v >> 8;
@@ -122,7 +137,7 @@ pub fn behind(s: &[u8], n: usize) -> &[u8]
     &s[n.min(s.len())..]
 }
 
-// Copies as many bytes as both have room for, from the front; the library's copy wants two of one length.
+// Copies as many bytes as both have room for, from the front; the library's copy asks its callers for two of one length.
 pub fn copy(out: &mut [u8], s: &[u8])
     ensures { out.new ≡ take (length out.old) s.now ++ drop (length s.now) out.old }
 {

@@ -1,4 +1,4 @@
-// The console's own calls of the card: a power-up with any settings and password, a block of any size, and a take in either bus mode.
+// The console's own calls of the card: a power-up with any settings and password, and a block of any size.
 #![tactic(auto)]
 
 pub mod response;

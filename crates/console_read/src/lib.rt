@@ -7,7 +7,7 @@ pub mod password;
 use card::Settings;
 use codec::word32;
 use reg_cid::content::Words;
-use replay_read::hex::unhex;
+use replay_read::field;
 
 // The CID is that of the fifteen bytes before its check byte, reserved bits ignored. Flags: bit 0 permanent, bit 1 temporary
 // protection, and no other.
@@ -29,20 +29,16 @@ pub const SETTINGS: usize = 45;
 
 // What follows the word of a power-up: block count, start polls, CID and flags, in 8, 2, 30 and 2 digits parted by tabs.
 pub fn settings(fields: &[u8]) -> Option<Settings> {
-    if fields.len() != SETTINGS {
+    if fields.len() != SETTINGS
+        || fields[8] != b'\t'
+        || fields[11] != b'\t'
+        || fields[42] != b'\t'
+    {
         return None;
     }
-    let mut blocks = [0u8; 4];
-    let mut polls = [0u8; 1];
-    let mut content = [0u8; 15];
-    let mut flags = [0u8; 1];
-    let parted = fields[8] == b'\t' && fields[11] == b'\t' && fields[42] == b'\t';
-    let readable = unhex(&fields[0..8], &mut blocks)
-        && unhex(&fields[9..11], &mut polls)
-        && unhex(&fields[12..42], &mut content)
-        && unhex(&fields[43..45], &mut flags);
-    if !parted || !readable {
-        return None;
-    }
-    settings_of(word32(&blocks), polls[0], content, flags[0])
+    let blocks = field::<4>(&fields[..8])?;
+    let [polls] = field::<1>(&fields[9..11])?;
+    let content = field(&fields[12..42])?;
+    let [flags] = field::<1>(&fields[43..])?;
+    settings_of(word32(&blocks), polls, content, flags)
 }

@@ -52,7 +52,7 @@ pub fn crc16(s: &[u8]) -> u16
     let t = table16::table();
     let mut r: u16 = 0;
     for byte in s {
-        r = table16::turn(&t, r ^ ((*byte as u16) << 8));
+        r = table16::turn(&t, r ^ (u16::from(*byte) << 8));
     }
     r
 }

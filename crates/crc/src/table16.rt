@@ -42,5 +42,5 @@ pub(crate) fn turn(t: &[u16; 256], r: u16) -> u16
     requires { Tabulates poly16 t.now }
     ensures { bits 16 result ≡ turns poly16 8 (bits 16 r) }
 {
-    (r << 8) ^ t[(r >> 8) as usize]
+    (r << 8) ^ t[usize::from(r >> 8)]
 }

@@ -36,7 +36,7 @@ pub fn row(command: Command, rca: u16) -> Row
     }
 }
 
-// A poll is counted where A41 is sent.
+// A poll is counted where A41 is sent. This one and the next go by the index, as frames do, and promise their answer for any.
 pub fn counts(index: u8) -> bool
     ensures { result ≡ eqb index SD_SEND_OP_COND }
 {

@@ -31,7 +31,7 @@ pub(crate) fn unsound(limit: u16, polls: u16) -> bool
     !limited(limit) || limit < polls
 }
 
-// Nothing is known of the card yet.
+// Nothing is known of the card yet: zeros, as the model has them, since the record shows what was found in plain numbers and bytes.
 pub(crate) fn begin(limit: u16) -> Host
     ensures { result ≡ begin limit }
 {

@@ -43,12 +43,7 @@ pub fn sixteen(w: Words) -> [u8; 16]
 pub fn emit(fits: bool, w: Words, out: &mut [u8]) -> Result<usize, Refusal>
     ensures { encoding result out.new ≡ emitted fits w.first w.rest out.old }
 {
-    if out.len() < 17 {
-        return Err(Refusal::Buffer);
-    }
-    if !fits {
-        return Err(Refusal::Field);
-    }
+    codec::writable(fits, out.len())?;
     out[..16].copy_from_slice(&sixteen(w));
     Ok(16)
 }

@@ -1,15 +1,19 @@
 -- The bytes of SCR and OCR: one word, and no check.
 use mathlib.Core.Path.{◌≡◌, refl, sym, ap, ◌∙◌}
-use mathlib.Core.Bool.{Bool, true}
+use mathlib.Core.Bool.{Bool, true, false, cond}
 use mathlib.Core.List.{List}
 use Prim.Native.Nat.{ℕ, ◌*◌, ◌%◌, ◌^◌, ◌<◌, ◌≤◌}
 use native.Mathlib.Nat.{mod-eq_of_lt, lt_of_lt_of_le}
-use borrow.Author.Tests.{ne_eqb}
+use native.Mathlib.Omega.{arith}
+use borrow.Author.Tests.{eqb-true}
+use lib.Dec.{eqb}
 use lib.ListN.{length}
 use lib.Pow.{pow_mono}
+use Rattle.std.specs.Prelude.{Ok, Err}
 use Rattle.crc.specs.Bits.{bits, number, bits_of}
 use Rattle.crc.proofs.Bits.{length-bits_of, number_lt}
-use Rattle.codec.specs.Answer.{done, refused, SIZE}
+use Rattle.codec.specs.declared.Refusal.TheVariants.{Size}
+use Rattle.codec.specs.Answer.{done}
 use Rattle.codec.specs.Layout.{Slot, width, write, read, fits, judged}
 use Rattle.codec.specs.Format.{Format, bare, encode, decode}
 use Rattle.reg_scr_ocr.specs.Bare.{emitted}
@@ -22,17 +26,20 @@ use Rattle.reg_cid.proofs.Words.{read_one}
 abbrev pub unchecked : ℕ → List Slot → Format
 unchecked n slots = record { size = n; slots = slots; ending = bare }
 
-pub size-refused : (f : Format) (s : List ℕ) → (length s ≡ f.size → ⊥) → refused SIZE ≡ decode f s
-unfolding decode
-size-refused f s h = rw (ne_eqb (length s) f.size h)
+-- a word that was read comes from so many bytes
+word_read : (b : Bool) (w x : ℕ) → Ok w ≡ cond b (Ok x) (Err Size) → (b ≡ true) × (w ≡ x)
+word_read true w x e = (refl, cc)
+word_read false w x e = let z : ◌≡◌ {A = ℕ} 0 1 = cc in absurd (omega arith)
 
 module _ (n : ℕ) (slots : List Slot) (wide : width slots ≡ 8 * n) where
-  pub word_fields : ((bs : List Bool) → judged slots bs ≡ true) → (s : List ℕ) (w : ℕ) → 8 * n ≤ 64 → length s ≡ n
-      → w ≡ number (bits_of s) % 2 ^ 64 → done (within slots (8 * n) w) ≡ decode (unchecked n slots) s
-  word_fields free s w room h e =
+  pub word_fields : ((bs : List Bool) → judged slots bs ≡ true) → (s : List ℕ) (w : ℕ) → 8 * n ≤ 64
+      → Ok w ≡ cond (eqb (length s) n) (Ok (number (bits_of s) % 2 ^ 64)) (Err Size) → done (within slots (8 * n) w) ≡ decode (unchecked n slots) s
+  word_fields free s w room e =
+      let p = word_read (eqb (length s) n) w _ e in
+      let h : length s ≡ n = eqb-true (length s) n p.0 in
       let l : length (bits_of s) ≡ 8 * n = length-bits_of s ∙ ap (λ (k : ℕ). 8 * k) h in
       let lt : number (bits_of s) < 2 ^ (8 * n) = rw l at (number_lt (bits_of s)) in
-      let is : w ≡ number (bits_of s) = e ∙ mod-eq_of_lt (lt_of_lt_of_le lt (pow_mono room)) in
+      let is : w ≡ number (bits_of s) = p.1 ∙ mod-eq_of_lt (lt_of_lt_of_le lt (pow_mono room)) in
       sym
       (decode-done (unchecked n slots) s (within slots (8 * n) w)
       (record {

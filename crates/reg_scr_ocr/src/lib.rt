@@ -1,7 +1,8 @@
 // The registers without a check: SCR and OCR, each one word.
 #![tactic(auto)]
 
-ghost use Rattle.std.specs.Prelude.{◌≡◌, ◌≤◌};
+ghost use Rattle.std.specs.Prelude.{◌≡◌, ◌≤◌, cond, eqb, length, ◌%◌, ◌^◌};
+ghost use Rattle.crc.specs.Bits.{number, bits_of};
 ghost use Rattle.codec.specs.Answer.{encoding};
 ghost use Rattle.reg_scr_ocr.specs.Bare.{emitted};
 
@@ -16,12 +17,17 @@ pub(crate) fn emit(fits: bool, word: u64, size: usize, out: &mut [u8]) -> Result
     requires { size ≤ 8 }
     ensures { encoding result out.new ≡ emitted fits word size out.old }
 {
-    if out.len() < 17 {
-        return Err(Refusal::Buffer);
-    }
-    if !fits {
-        return Err(Refusal::Field);
-    }
+    codec::writable(fits, out.len())?;
     codec::put(&mut out[..size], word);
     Ok(size)
+}
+
+// Row 1, or the word of `size` bytes.
+pub(crate) fn read(s: &[u8], size: usize) -> Result<u64, Refusal>
+    ensures { result ≡ cond (eqb (length s.now) size) (Ok (number (bits_of s.now) % 2 ^ 64)) (Err Refusal.Size) }
+{
+    if s.len() != size {
+        return Err(Refusal::Size);
+    }
+    Ok(codec::word(s))
 }

@@ -43,14 +43,11 @@ pub fn encode(c: Ocr, out: &mut [u8]) -> Result<usize, Refusal>
     crate::emit(fit(c), word(c), 4, out)
 }
 
+#[tactic(auto, unfolding(codec::specs::Format::decode))]
 pub fn decode(s: &[u8]) -> Result<Ocr, Refusal>
     ensures { ocr_read result ≡ decode ocr s.now }
 {
-    // its own size and no check, so nothing is shared with the registers of 16 bytes
-    if s.len() != 4 {
-        return Err(Refusal::Size);
-    }
-    let w = codec::word(s);
+    let w = crate::read(s, 4)?;
     Ok(Ocr {
         busy: field(w, 31, 1) == 1,
         capacity: field(w, 30, 1) == 1,

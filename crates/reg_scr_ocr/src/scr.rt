@@ -43,14 +43,11 @@ pub fn encode(c: Scr, out: &mut [u8]) -> Result<usize, Refusal>
     crate::emit(fit(c), word(c), 8, out)
 }
 
+#[tactic(auto, unfolding(codec::specs::Format::decode))]
 pub fn decode(s: &[u8]) -> Result<Scr, Refusal>
     ensures { scr_read result ≡ decode scr s.now }
 {
-    // its own size and no check, so nothing is shared with the registers of 16 bytes
-    if s.len() != 8 {
-        return Err(Refusal::Size);
-    }
-    let w = codec::word(s);
+    let w = crate::read(s, 8)?;
     Ok(Scr {
         scr_structure: field(w, 60, 4) as u8,
         sd_spec: field(w, 56, 4) as u8,

@@ -1,6 +1,6 @@
 -- Hex digits, a byte at a time: what a turn of the loop that reads them does.
 use mathlib.Core.Path.{◌≡◌, refl, sym, ap, ap₂, ◌∙◌}
-use mathlib.Core.Bool.{true, false, ◌&&◌, and-false, and-eq-true_iff}
+use mathlib.Core.Bool.{Bool, true, false, ◌&&◌, and-false, and-eq-true_iff}
 use mathlib.Core.List.{List, [], ◌∷◌, ◌++◌, append_assoc, append-nil}
 use Prim.Native.Nat.{ℕ, zero, suc, ◌+◌, ◌*◌, ◌/◌, ◌%◌, ◌^◌, ◌<◌, ◌≤◌}
 use native.Mathlib.Numerals.{add-one}
@@ -11,6 +11,8 @@ use lib.Dec.{ltb}
 use lib.ListN.{length, get_or, take, drop, set, drop_of_length-le}
 use lib.Pow.{shl_exact}
 use lib.Seq.{drop-cons, take_all, take-suc-set}
+use Rattle.std.specs.List.{list_all}
+use Rattle.std.specs.Simd.{first_chunks}
 use Rattle.replay_read.specs.Hex.{hex, hex_value, all_hex, unhex, fills}
 
 -- ---- lengths
@@ -33,7 +35,30 @@ length-unhex (suc n) (x ∷ y ∷ s) h = ap suc (length-unhex n s (omega arith))
 pub byte-joined : (h l : ℕ) → h < 16 → l < 16 → bit_or (h * 2 ^ 4 % 2 ^ 8) l ≡ h * 16 + l
 byte-joined h l p q = ap (λ (n : ℕ). bit_or n l) (shl_exact 4 4 8 p (omega arith)) ∙ or_shifted h 4 l q
 
-module _ (digits : List ℕ) (i high low : ℕ) (room : 2 * i + 1 < length digits)
+-- each of them is a digit
+pub digit_at : (s : List ℕ) (i : ℕ) → all_hex s ≡ true → i < length s → hex_value (get_or s i 0) < 16
+unfolding all_hex
+digit_at [] i h l = absurd (omega arith)
+digit_at (c ∷ s) zero h l = ltb-true _ _ ((and-eq-true_iff _ _).0 h).0
+digit_at (c ∷ s) (suc i) h l = digit_at s i ((and-eq-true_iff _ _).0 h).1 (omega arith)
+
+chunk_at : (s : List ℕ) (k i : ℕ) → 2 * k ≤ length s → i < k
+    → get_or (first_chunks 2 k s) i [] ≡ get_or s (2 * i) 0 ∷ get_or s (2 * i + 1) 0 ∷ []
+chunk_at s zero i h l = absurd (omega arith)
+chunk_at [] (suc k) i h l = absurd (omega arith)
+chunk_at (x ∷ []) (suc k) i h l = absurd (omega arith)
+chunk_at (x ∷ y ∷ s) (suc k) zero h l = refl
+chunk_at (x ∷ y ∷ s) (suc k) (suc i) h l =
+    let e : 2 * suc i ≡ suc (suc (2 * i)) = omega arith in
+    let f : suc (suc (2 * i)) + 1 ≡ suc (suc (2 * i + 1)) = omega arith in
+    rw (e, f) (chunk_at s k i (omega arith) (omega arith))
+
+-- a pair of them, where it lies
+pub pair_at : (s : List ℕ) (pairs : List (List ℕ)) (i : ℕ) → pairs ≡ first_chunks 2 (length s / 2) s → i < length s / 2
+    → get_or pairs i [] ≡ get_or s (2 * i) 0 ∷ get_or s (2 * i + 1) 0 ∷ []
+pair_at s pairs i e l = rw e (chunk_at s (length s / 2) i (omega arith) l)
+
+module _ (digits : List ℕ) (i high low : ℕ) (room : 2 * i + 1 < length digits) (right : all_hex digits ≡ true)
     (eh : high ≡ hex_value (get_or digits (2 * i) 0)) (el : low ≡ hex_value (get_or digits (2 * i + 1) 0)) where
   rest : List ℕ
   rest = drop (2 * (i + 1)) digits
@@ -48,28 +73,19 @@ module _ (digits : List ℕ) (i high low : ℕ) (room : 2 * i + 1 < length digit
       ∙ drop-cons digits (2 * i + 1) 0 room
       ∙ ap (λ (n : ℕ). get_or digits (2 * i + 1) 0 ∷ drop n digits) (sym e))
 
-  pub unhex-more : (out : List ℕ) → i < length out → high ≤ 15 → low ≤ 15 → unhex digits ≡ take i out ++ unhex (drop (2 * i) digits)
+  pub unhex-more : (out : List ℕ) → i < length out → unhex digits ≡ take i out ++ unhex (drop (2 * i) digits)
       → unhex digits ≡ take (i + 1) (set out i (bit_or (high * 2 ^ 4 % 2 ^ 8) low)) ++ unhex (drop (2 * (i + 1)) digits)
   unfolding rest unhex
-  unhex-more out ho h l inv =
+  unhex-more out ho inv =
       let byte : ℕ = bit_or (high * 2 ^ 4 % 2 ^ 8) low in
+      let h : high < 16 = rw eh (digit_at digits (2 * i) right (omega arith)) in
+      let l : low < 16 = rw el (digit_at digits (2 * i + 1) right room) in
       inv
       ∙ ap (λ (s : List ℕ). take i out ++ unhex s) pair
       ∙ ap₂ (λ (a b : ℕ). take i out ++ ((a * 16 + b) ∷ unhex rest)) (sym eh) (sym el)
-      ∙ ap (λ (n : ℕ). take i out ++ (n ∷ unhex rest)) (sym (byte-joined high low (omega arith) (omega arith)))
+      ∙ ap (λ (n : ℕ). take i out ++ (n ∷ unhex rest)) (sym (byte-joined high low h l))
       ∙ sym (append_assoc (take i out) (byte ∷ []) (unhex rest))
       ∙ ap (λ (s : List ℕ). s ++ unhex rest) (sym (ap (λ (n : ℕ). take n (set out i byte)) (add-one i) ∙ take-suc-set out i byte ho))
-
--- each of them is a digit
-pub digit_at : (s : List ℕ) (i : ℕ) → all_hex s ≡ true → i < length s → hex_value (get_or s i 0) < 16
-unfolding all_hex
-digit_at [] i h l = absurd (omega arith)
-digit_at (c ∷ s) zero h l = ltb-true _ _ ((and-eq-true_iff _ _).0 h).0
-digit_at (c ∷ s) (suc i) h l = digit_at s i ((and-eq-true_iff _ _).0 h).1 (omega arith)
-
-pub all_end : (digits : List ℕ) (n : ℕ) → length digits ≤ n → all_hex (drop n digits) ≡ all_hex digits → true ≡ all_hex digits
-unfolding all_hex
-all_end digits n h inv = rw (drop_of_length-le digits h) at inv
 
 pub unhex_all : (digits : List ℕ) (i : ℕ) → length digits ≤ 2 * i → (out : List ℕ) → length out ≤ i
     → unhex digits ≡ take i out ++ unhex (drop (2 * i) digits) → out ≡ unhex digits
@@ -77,18 +93,10 @@ unfolding unhex
 unhex_all digits i h out k inv =
     sym (inv ∙ ap (λ (l : List ℕ). take i out ++ unhex l) (drop_of_length-le digits h) ∙ append-nil (take i out) ∙ take_all i out k)
 
--- ---- digit by digit
-
-module _ (digits : List ℕ) (i : ℕ) (h : i < length digits) (inv : all_hex (drop i digits) ≡ all_hex digits) where
-  one : all_hex digits ≡ (ltb (hex_value (get_or digits i 0)) 16 && all_hex (drop (i + 1) digits))
-  unfolding all_hex
-  one = sym inv ∙ rw (add-one i, drop-cons digits i 0 h)
-
-  pub digit-wrong : false ≡ ltb (hex_value (get_or digits i 0)) 16 → false ≡ all_hex digits
-  digit-wrong w = sym (one ∙ rw (sym w))
-
-  pub digit-more : true ≡ ltb (hex_value (get_or digits i 0)) 16 → all_hex (drop (i + 1) digits) ≡ all_hex digits
-  digit-more w = sym (one ∙ rw (sym w))
+pub all_is : (s : List ℕ) → list_all (λ (c : ℕ). ltb (hex_value c) 16) s ≡ all_hex s
+unfolding all_hex
+all_is [] = refl
+all_is (c ∷ s) = ap (λ (b : Bool). ltb (hex_value c) 16 && b) (all_is s)
 
 -- ---- digits of just so many bytes
 

@@ -18,12 +18,7 @@ fn value(c: u8) -> u8
 fn all_hex(digits: &[u8]) -> bool
     ensures { result ≡ all_hex digits.now }
 {
-    for c in digits {
-        if !is_digit(*c) {
-            return false;
-        }
-    }
-    true
+    digits.iter().all(|c| is_digit(*c))
 }
 
 // The bytes of digits.
@@ -32,8 +27,8 @@ fn unhex_into(digits: &[u8], out: &mut [u8])
     requires right { all_hex digits.now ≡ true }
     ensures { out.new ≡ unhex digits.now }
 {
-    for i in 0..out.len() {
-        out[i] = (value(digits[2 * i]) << 4) | value(digits[2 * i + 1]);
+    for (i, [high, low]) in digits.as_chunks::<2>().0.iter().enumerate() {
+        out[i] = (value(*high) << 4) | value(*low);
     }
 }
 

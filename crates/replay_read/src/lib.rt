@@ -4,7 +4,8 @@
 ghost use Rattle.std.specs.Prelude.{◌≡◌, ◌<◌, ◌⊎◌, ◌*◌, [], ◌∷◌, take, length, IfOk, OnErr};
 ghost use Rattle.std.specs.Io.{ReadsAtMost};
 ghost use Rattle.std.specs.Io.KnownBytes.{Keeps, Consumes, IsAtEnd};
-ghost use Rattle.replay_read.specs.Read.{read_line, held, field_read};
+ghost use Rattle.std.specs.Option.{option_copied};
+ghost use Rattle.replay_read.specs.Read.{read_line, held, field_read, front_read};
 ghost use Rattle.replay_read.specs.Keep.{keep_byte, collected};
 
 pub mod hex;
@@ -22,7 +23,7 @@ pub enum Input {
 }
 
 // A field of so many bytes.
-fn field<const N: usize>(digits: &[u8]) -> Option<[u8; N]>
+pub fn field<const N: usize>(digits: &[u8]) -> Option<[u8; N]>
     ensures { result ≡ field_read (2 * N) digits.now }
 {
     let mut bytes = [0u8; N];
@@ -30,6 +31,21 @@ fn field<const N: usize>(digits: &[u8]) -> Option<[u8; N]>
         return None;
     }
     Some(bytes)
+}
+
+// A field of as many bytes as there is room for, in the front of the buffer.
+pub fn field_into<'a>(digits: &[u8], bytes: &'a mut [u8]) -> Option<&'a [u8]>
+    ensures { option_copied result ≡ front_read (length bytes.old) digits.now }
+{
+    let n = digits.len() / 2;
+    if n > bytes.len() {
+        return None;
+    }
+    let front = &mut bytes[..n];
+    if !unhex(digits, front) {
+        return None;
+    }
+    Some(front)
 }
 
 // A line without its newline; none where it cannot be read.

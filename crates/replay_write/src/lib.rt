@@ -59,10 +59,9 @@ pub fn place(text: &[u8], count: usize) -> usize
     0
 }
 
-// A text with room for the answers to any 4,096 bytes of input, which are the longest where all are `take`s; and 2,048 blocks
-// of memory.
-pub fn mebibyte() -> [u8; 1048576]
-    ensures { (1048576 ≡ length result) × (result ≡ replicate 1048576 0) }
+// Large arrays come from here: as literals in a loop's function they cost the prover ten seconds and more.
+pub fn zeros<const N: usize>() -> [u8; N]
+    ensures { (N ≡ length result) × (result ≡ replicate N 0) }
 {
-    [0; 1048576]
+    [0; N]
 }

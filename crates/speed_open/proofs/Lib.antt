@@ -1,2 +1,2 @@
--- Frames one after the other.
+-- What a call leaves.
 pub mod Frames

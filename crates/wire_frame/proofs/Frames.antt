@@ -146,12 +146,6 @@ module _ (n first : ℕ) (out mid : List ℕ) (l : length mid ≡ length (take n
   pub length-stored : length (put_mid 1 n (set out 0 first) mid) ≡ length out
   length-stored = same_len_mid 1 n (set out 0 first) mid l ∙ length-set out 0 first
 
-  pub stored-room : (k : ℕ) → k ≤ length out → k ≤ length (put_mid 1 n (set out 0 first) mid)
-  stored-room k h = rw length-stored h
-
-  pub stored-length : (k last : ℕ) → length (set (put_mid 1 n (set out 0 first) mid) k last) ≡ length out
-  stored-length k last = length-set (put_mid 1 n (set out 0 first) mid) k last ∙ length-stored
-
 pub emitted : (n : ℕ) (s buffer out : List ℕ) → length s ≡ n → buffer ≡ s ++ drop n out → encoding (Ok n) buffer ≡ emit s out
 emitted n s buffer out h e =
     ap (encoding (Ok n)) e ∙ ap (λ (k : ℕ). record { answer = done k; buffer = s ++ drop k out }) (sym h)

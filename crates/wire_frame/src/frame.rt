@@ -17,6 +17,7 @@ fn last(checked: bool, head: &[u8]) -> u8
 }
 
 // Rows 4 and 8, or the six bytes.
+#[tactic(auto, unfolding(crate::specs::Frame::encode_frame))]
 pub fn encode(
     fits: bool,
     checked: bool,
@@ -26,12 +27,7 @@ pub fn encode(
 ) -> Result<usize, Refusal>
     ensures { encoding result out.new ≡ encode_frame fits checked first content out.old }
 {
-    if out.len() < 17 {
-        return Err(Refusal::Buffer);
-    }
-    if !fits {
-        return Err(Refusal::Field);
-    }
+    codec::writable(fits, out.len())?;
     out[0] = first;
     codec::put32(&mut out[1..5], content);
     out[5] = last(checked, &out[0..5]);

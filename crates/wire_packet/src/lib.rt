@@ -13,36 +13,32 @@ pub const PAYLOAD: usize = 512;
 // The bytes of a check.
 pub const CHECK: usize = 2;
 
+#[tactic(auto, unfolding(crate::specs::Packet::encode_packet))]
 pub fn encode(payload: &[u8], out: &mut [u8]) -> Result<usize, Refusal>
     ensures { encoding result out.new ≡ encode_packet payload.now out.old }
 {
     let n = payload.len();
-    if n < 1 {
-        return Err(Refusal::Size);
-    }
-    if n > PAYLOAD {
+    if !(1..=PAYLOAD).contains(&n) {
         return Err(Refusal::Size);
     }
     if out.len() < PAYLOAD + CHECK {
         return Err(Refusal::Buffer);
     }
-    codec::copy(&mut out[0..n], payload);
-    codec::put32(&mut out[n..n + CHECK], crc::crc16(payload) as u32);
+    out[..n].copy_from_slice(payload);
+    codec::put32(&mut out[n..n + CHECK], u32::from(crc::crc16(payload)));
     Ok(n + CHECK)
 }
 
 // The payload where it lies in the packet.
+#[tactic(auto, unfolding(crate::specs::Packet::decode_packet))]
 pub fn decode(p: &[u8]) -> Result<&[u8], Refusal>
     ensures { part_read result ≡ decode_packet p.now }
 {
-    if p.len() < 1 + CHECK {
-        return Err(Refusal::Size);
-    }
-    if p.len() > PAYLOAD + CHECK {
+    if !(1 + CHECK..=PAYLOAD + CHECK).contains(&p.len()) {
         return Err(Refusal::Size);
     }
     let (payload, check) = p.split_at(p.len() - CHECK);
-    if codec::word32(check) != crc::crc16(payload) as u32 {
+    if codec::word32(check) != u32::from(crc::crc16(payload)) {
         return Err(Refusal::Wrong);
     }
     Ok(payload)

@@ -1,48 +1,23 @@
 -- R2: 3Fh, then the sixteen bytes of a register, the last of them its own check.
 use mathlib.Core.Path.{◌≡◌, refl, sym, ap, ap₂, ◌∙◌}
 use mathlib.Core.Bool.{Bool, true, false, cond, ◌&&◌, and-true, and-eq-true_iff}
-use mathlib.Core.List.{List, [], ◌∷◌, ◌++◌, append-nil}
-use Prim.Native.Nat.{ℕ, suc, ◌<◌, ◌≤◌}
+use mathlib.Core.List.{List, [], ◌∷◌, ◌++◌}
+use Prim.Native.Nat.{ℕ, suc, ◌<◌}
 use native.Mathlib.Omega.{arith}
-use borrow.Author.Tests.{le-ltb, eq-eqb, ne_eqb, eqb-true}
-use borrow.Rule.Slice.PartMut.{put_mid}
+use borrow.Author.Tests.{eq-eqb, ne_eqb, eqb-true}
 use lib.Dec.{eqb}
-use lib.ListN.{length, get_or, take, drop, set, replicate, length-drop, drop_of_length-le}
+use lib.ListN.{length, get_or, take, drop, replicate, length-drop}
 use lib.Seq.{take_all}
 use Rattle.crc.specs.Bits.{bits, number, bits_of, Bytes}
 use Rattle.crc.specs.Crc.{crc, poly7}
 use Rattle.crc.specs.Detection.{same}
-use Rattle.codec.specs.Answer.{done, refused, SIZE, WRONG, encoding}
-use Rattle.std.specs.Prelude.{Ok}
+use Rattle.codec.specs.Answer.{done, refused, SIZE, WRONG}
 use Rattle.codec.specs.Layout.{field, width, judged}
 use Rattle.codec.specs.Format.{right, ended}
 use Rattle.codec.proofs.Words.{right-ended}
-use Rattle.wire_frame.proofs.Frames.{stored, length-lent, emitted}
-use Rattle.wire_response.specs.Response.{r2, r2_bytes, encode_r2, decode_r2, register_right}
+use Rattle.wire_response.specs.Response.{r2, r2_bytes, decode_r2, register_right}
 use Rattle.wire_response.specs.Claims.{R2RoundTrip}
 use Rattle.wire_response.proofs.Shorts.{judged-index}
-
--- ---- encoding
-
--- the register, as `copy` puts it into its part
-pub copy-register : (vs out mid : List ℕ) → length vs ≡ 16 → 17 ≤ length out
-    → mid ≡ take (length (take 16 (drop 1 (set out 0 63)))) vs ++ drop (length vs) (take 16 (drop 1 (set out 0 63)))
-    → mid ≡ vs
-copy-register vs out mid l h e =
-    let room : length (take 16 (drop 1 (set out 0 63))) ≡ 16 = length-lent 16 63 out (omega arith) in
-    e
-    ∙ ap₂ (λ (x y : List ℕ). x ++ y)
-    (take_all (length (take 16 (drop 1 (set out 0 63)))) vs (omega arith))
-    (drop_of_length-le (take 16 (drop 1 (set out 0 63))) {i = length vs} (omega arith))
-    ∙ append-nil vs
-
-pub encode-register : (vs out mid : List ℕ) → length vs ≡ 16 → 17 ≤ length out → mid ≡ vs
-    → encoding (Ok 17) (put_mid 1 16 (set out 0 63) mid) ≡ encode_r2 vs out
-unfolding encode_r2
-encode-register vs out mid l h m =
-    emitted 17 (r2_bytes vs) (put_mid 1 16 (set out 0 63) mid) out (ap suc l)
-    (stored 16 63 out mid (ap length m ∙ l) (omega arith) ∙ ap (λ (q : List ℕ). (63 ∷ q) ++ drop 17 out) m)
-    ∙ sym (simp (eq-eqb (length vs) 16 l, le-ltb (length out) 17 h))
 
 -- ---- decoding
 

@@ -17,6 +17,7 @@ pub fn encode_r1(index: u8, status: u32, out: &mut [u8]) -> Result<usize, Refusa
 }
 
 // 3Fh, then the 16 bytes of a register as they are, its own check among them.
+#[tactic(auto, unfolding(crate::specs::Response::encode_r2))]
 pub fn encode_r2(register: &[u8], out: &mut [u8]) -> Result<usize, Refusal>
     ensures { encoding result out.new ≡ encode_r2 register.now out.old }
 {
@@ -27,7 +28,7 @@ pub fn encode_r2(register: &[u8], out: &mut [u8]) -> Result<usize, Refusal>
         return Err(Refusal::Buffer);
     }
     out[0] = 0x3F;
-    codec::copy(&mut out[1..17], register);
+    out[1..17].copy_from_slice(register);
     Ok(17)
 }
 
@@ -40,7 +41,13 @@ pub fn encode_r3(ocr: u32, out: &mut [u8]) -> Result<usize, Refusal>
 pub fn encode_r6(rca: u16, status: u16, out: &mut [u8]) -> Result<usize, Refusal>
     ensures { encoding result out.new ≡ encode r6 (rca ∷ status ∷ []) out.old }
 {
-    wire_frame::frame::encode(true, true, 3, ((rca as u32) << 16) | status as u32, out)
+    wire_frame::frame::encode(
+        true,
+        true,
+        3,
+        (u32::from(rca) << 16) | u32::from(status),
+        out,
+    )
 }
 
 pub fn encode_r7(voltage: u8, pattern: u8, out: &mut [u8]) -> Result<usize, Refusal>
@@ -50,7 +57,7 @@ pub fn encode_r7(voltage: u8, pattern: u8, out: &mut [u8]) -> Result<usize, Refu
         voltage < 16,
         true,
         8,
-        ((voltage as u32) << 8) | pattern as u32,
+        (u32::from(voltage) << 8) | u32::from(pattern),
         out,
     )
 }

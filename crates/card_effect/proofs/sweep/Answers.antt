@@ -2,21 +2,12 @@
 use mathlib.Core.Path.{◌≡◌, refl, sym, ap, ◌∙◌}
 use Prim.Native.Nat.{ℕ, ◌+◌, ◌-◌, ◌*◌}
 use native.Mathlib.Omega.{arith}
-use borrow.Author.Tests.{le-leb, lt-leb}
+use borrow.Author.Tests.{le-leb}
 use lib.ListN.{length}
 use Rattle.card.specs.Settings.{BLOCK}
 use Rattle.card.specs.Effects.{swept}
 use Rattle.card_effect.proofs.Sweeps.{swept-more, swept-end}
 use Rattle.card_effect.proofs.sweep.Goals as goal
-
-pub loop-block-init : goal.loop-block-init
-loop-block-init c =
-    let a = c.args in
-    let e : a.first + a.count - a.first ≡ a.count = omega arith in
-    (refl, c.if-memory-behind.false, refl, ap (λ (k : ℕ). swept a.all a.marks.now a.first k a.memory.now) e)
-
-pub sweep_block-requires : goal.sweep_block-requires
-sweep_block-requires c = (omega arith, omega arith)
 
 pub loop-block-preserved : goal.loop-block-preserved
 loop-block-preserved c =
@@ -29,9 +20,6 @@ loop-block-preserved c =
           ∙ sym (swept-more a.all a.marks.now at.block _ at.memory c.loop-block-test.true)
           ∙ at.invariant.3,
     )
-
-pub shape_of-memory : goal.shape_of-memory
-shape_of-memory c = c.loop-block.invariant.2
 
 pub returns : goal.returns
 returns c =

@@ -6,12 +6,6 @@ use Rattle.card.specs.Protect.{any_guarded}
 use Rattle.card_protect.proofs.Blocks.{any_one, any_none, any_end}
 use Rattle.card_protect.proofs.any_guarded.Goals as goal
 
-pub loop-block-init : goal.loop-block-init
-loop-block-init c =
-    let a = c.args in
-    let e : a.first + a.count - a.first ≡ a.count = omega arith in
-    (refl, ap (any_guarded a.all a.marks.now a.first) e)
-
 pub returns-then-guarded_block : goal.returns-then-guarded_block
 returns-then-guarded_block c =
     let at = c.loop-block in

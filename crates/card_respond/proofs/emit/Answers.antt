@@ -3,14 +3,12 @@ use Rattle.std.proofs.Common.{ℕ, ◌∷◌, sym, refl, ap}
 use Rattle.card.specs.Frame as Frame
 use Rattle.card.specs.Step.{wire, reply_of}
 use Rattle.card_respond.specs.Sent.{message, behind}
-use Rattle.card_respond.proofs.Sending.{shows}
+use Rattle.card_respond.proofs.Sending.{shows, shows-silence}
 use Rattle.card_respond.proofs.emit.Goals as goal
 
-pub returns-in-Sd : goal.returns-in-Sd
+pub returns-in-Silence : goal.returns-in-Silence
 unfolding wire reply_of
-returns-in-Sd c =
-    let send = c in
-    rw send.in-Sd.is send.emit_sd.ensures
+returns-in-Silence c = shows-silence _ _ _ (ap (message c.args.c) c.in-Silence.is)
 
 pub returns-in-Spi : goal.returns-in-Spi
 unfolding wire reply_of

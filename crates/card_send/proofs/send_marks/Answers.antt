@@ -6,12 +6,6 @@ use Rattle.card_send.proofs.Sent.{same_as}
 use Rattle.card_send.proofs.send_marks.Goals as goal
 
 -- the array of the marks has its length
-pub slice_bounds-mark_word-end : goal.slice_bounds-mark_word-end
-slice_bounds-mark_word-end c =
-    let core = c.well_formed.0.1.1.0 in
-    let marks = core.1.1.1.1.1.1.1.1.1.1.0 in
-    search rules
-
 pub returns : goal.returns
 returns c memory =
     let made = c in

@@ -1,7 +1,4 @@
 -- Four bytes, high byte first.
-use mathlib.Core.Path.{ap, ◌∙◌}
-use Prim.Native.Nat.{ℕ}
-use Rattle.crc.specs.Bits.{bits, bytes}
 use Rattle.card_send.proofs.Sent.{same_as}
 use Rattle.card_send.proofs.send_word.Goals as goal
 

@@ -8,8 +8,5 @@ returns-then-low-ge64 c = shifted-out 64 _ _ _ c.ranges.word.fits c.if-low-ge64.
 pub returns-then-width-ge64 : goal.returns-then-width-ge64
 returns-then-width-ge64 c = unmasked 64 _ _ _ c.ranges.word.fits c.if-width-ge64.true
 
-pub overflow_sub-result : goal.overflow_sub-result
-overflow_sub-result c = mask_room 64 c.args.width c.if-width-ge64.false
-
 pub returns : goal.returns
 returns c = masked 64 _ c.args.width c.if-width-ge64.false

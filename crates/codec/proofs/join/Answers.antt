@@ -7,8 +7,5 @@ returns-then-width-ge64 c =
     join-whole 64 c.args.width c.args.high c.args.low
     c.ranges.low.fits c.if-width-ge64.true
 
-pub overflow_sub-result : goal.overflow_sub-result
-overflow_sub-result c = mask_room 64 c.args.width c.if-width-ge64.false
-
 pub returns : goal.returns
 returns c = join-within 64 c.args.width c.args.high c.args.low c.if-width-ge64.false

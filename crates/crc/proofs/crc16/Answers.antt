@@ -13,9 +13,6 @@ pub loop-byte-init : goal.loop-byte-init
 unfolding crc poly16 bits
 loop-byte-init c = (omega arith, omega arith, refl)
 
-pub overflow_cast-byte : goal.overflow_cast-byte
-overflow_cast-byte c = omega (arith, c.type_inv.s c.loop-byte.byte-index)
-
 pub loop-byte-preserved : goal.loop-byte-preserved
 unfolding poly16 bits
 loop-byte-preserved c =
@@ -25,7 +22,7 @@ loop-byte-preserved c =
       omega arith,
       search rules,
       byte-fed 16 poly16 s at.byte-index at.r (b * 2 ^ 8 % 2 ^ 16) c.turn-r.result (crc poly16 (bits_of s))
-          refl (omega arith) c.loop-byte-test.true (moved 8 8 b) c.turn-r.ensures at.invariant.2,
+          refl (omega arith) c.loop-byte-test.true (moved 8 8 b) (rw (← c.from.ensures) c.turn-r.ensures) at.invariant.2,
     )
 
 pub returns : goal.returns

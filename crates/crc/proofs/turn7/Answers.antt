@@ -12,9 +12,6 @@ use Rattle.crc.proofs.turn7.Goals as goal
 abbrev up7 : List Bool
 up7 = poly7 ++ (false ∷ [])
 
-pub loop-init : goal.loop-init
-loop-init c = (omega arith, refl)
-
 pub loop-preserved : goal.loop-preserved
 loop-preserved c =
     let at = c.loop in

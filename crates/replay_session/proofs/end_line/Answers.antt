@@ -1,8 +1,7 @@
--- The answer goes to its place in the text.
-use Rattle.replay_session.proofs.Ended.{line-ended}
+-- What is played on the card.
+use Rattle.std.proofs.Common.{rules, of_calls}
+use Rattle.replay_session.proofs.Ended.{played-is, line-is}
 use Rattle.replay_session.proofs.end_line.Goals as goal
 
 pub returns : goal.returns
-returns c =
-    line-ended c.args.s _ _ c.args.text.now _ _ _ c.place-at.result c.play-played.result c.place-at.ensures.0 c.place-at.ensures.1 c.front.ensures c.play-played.ensures _
-    c.end.ensures
+returns c = line-is _ (played-is (λ card m l t r m' t' h. search (rules, of_calls))) _ _ c.end_line_with.ensures

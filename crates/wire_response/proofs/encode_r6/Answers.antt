@@ -16,7 +16,8 @@ returns c =
     let a = start.args.rca in
     let b = start.args.status in
     c.encode.ensures
-    ∙ sym
+    ∙ rw (c.from.ensures, c.from-2.ensures)
+    (sym
     (encode-short 3 (field 16 ∷ (field 16 ∷ [])) (a ∷ (b ∷ [])) start.args.out.now true _
     (simp (lt-ltb a (2 ^ 16) start.ranges.rca.fits, lt-ltb b (2 ^ 16) start.ranges.status.fits))
-    (λ t. write-halves a b start.ranges.rca.fits start.ranges.status.fits))
+    (λ t. write-halves a b start.ranges.rca.fits start.ranges.status.fits)))

@@ -17,7 +17,8 @@ returns c =
     let v = start.args.voltage in
     let p = start.args.pattern in
     c.encode.ensures
-    ∙ sym
+    ∙ rw (c.from.ensures, c.from-2.ensures)
+    (sym
     (encode-short 8 (reserved 20 ∷ (field 4 ∷ (field 8 ∷ []))) (v ∷ (p ∷ [])) start.args.out.now (ltb v 16) _
     (simp (lt-ltb p (2 ^ 8) start.ranges.pattern.fits, and-true))
-    (λ t. write-echo v p (ltb-true v 16 t) start.ranges.pattern.fits))
+    (λ t. write-echo v p (ltb-true v 16 t) start.ranges.pattern.fits)))

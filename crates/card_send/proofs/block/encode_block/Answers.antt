@@ -3,8 +3,5 @@ use mathlib.Core.Path.{◌∙◌}
 use Rattle.card_send.proofs.Led.{bare}
 use Rattle.card_send.proofs.block.encode_block.Goals as goal
 
-pub returns-then-spi : goal.returns-then-spi
-returns-then-spi c = rw c.if-spi.true c.encode_led.ensures
-
 pub returns : goal.returns
 returns c = rw c.if-spi.false (c.encode.ensures ∙ bare _ _)

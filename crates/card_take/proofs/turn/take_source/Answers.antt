@@ -12,9 +12,6 @@ use Rattle.card.specs.Data.{take_source}
 use Rattle.card_take.proofs.Sending.{block-sent, word-sent, register-sent}
 use Rattle.card_take.proofs.turn.take_source.Goals as goal
 
-pub returns-in-Blocks : goal.returns-in-Blocks
-returns-in-Blocks c = rw c.in-Blocks.is c.take_blocks.ensures
-
 pub returns-in-WriteProtect : goal.returns-in-WriteProtect
 unfolding take_source
 returns-in-WriteProtect c =

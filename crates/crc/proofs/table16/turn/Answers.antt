@@ -8,4 +8,4 @@ use Rattle.crc.proofs.table16.turn.Goals as goal
 
 pub returns : goal.returns
 unfolding poly16 bits
-returns c = turns_by_table 8 poly16 c.args.t.now refl c.requires c.args.r (search rules)
+returns c = rw c.from.ensures (turns_by_table 8 poly16 c.args.t.now refl c.requires c.args.r (search rules))

@@ -6,16 +6,13 @@ use Rattle.codec.specs.Layout.{width, judged}
 use Rattle.codec.proofs.Words.{within}
 use Rattle.reg_scr_ocr.specs.Scr.{scr}
 use Rattle.reg_cid.proofs.Words.{flag-part, cons}
-use Rattle.reg_scr_ocr.proofs.Bare.{size-refused, word_fields}
+use Rattle.reg_scr_ocr.proofs.Bare.{word_fields}
 use Rattle.reg_scr_ocr.proofs.scr.decode.Goals as goal
-
-pub returns-then-s-ne8 : goal.returns-then-s-ne8
-returns-then-s-ne8 c = size-refused _ _ c.if-s-ne8.true
 
 pub returns : goal.returns
 unfolding width judged within
 returns c =
-    let w = c.word-w.result in
+    let w = c.in_ok-w.w in
     ap done
     (cons _ _ _ _ c.field.ensures
     (cons _ _ _ _ c.field-2.ensures
@@ -23,4 +20,4 @@ returns c =
     (cons _ _ _ _ c.field-4.ensures
     (cons _ _ _ _ c.field-5.ensures
     refl)))))
-    ∙ word_fields 8 scr.slots refl (λ _. refl) _ w (lit≤ tt) c.if-s-ne8.false c.word-w.ensures
+    ∙ word_fields 8 scr.slots refl (λ _. refl) _ w (lit≤ tt) c.in_ok-w.ensures

@@ -9,4 +9,5 @@ returns c =
     let none = c in
     let memory = none.args.memory.now in
     let call = c.power_up in
-    powered _ memory none.no_password.result call.result (search rules) none.no_password.ensures (rw (zero_cid _ c.default.ensures) at call.ensures)
+    powered _ memory none.no_password.result call.result (search rules) none.no_password.ensures
+    (rw (none.default.ensures.1.0, zero_cid _ none.default.ensures.1.1.0, none.default.ensures.1.1.1.0, none.default.ensures.1.1.1.1) at call.ensures)

@@ -1,10 +1,10 @@
 -- `unhex_into` reads two digits a turn: at the loop's head what is written and the bytes that are left are all of them.
 use mathlib.Core.Path.{◌≡◌}
 use mathlib.Core.List.{◌++◌}
-use Prim.Native.Nat.{◌*◌, ◌≤◌}
-use lib.ListN.{length, take, drop}
+use Prim.Native.Nat.{◌*◌}
+use lib.ListN.{take, drop}
 use Rattle.replay_read.specs.Hex.{unhex}
 use Rattle.replay_read.proofs.hex.unhex_into.Given as goal
 
 abbrev pub invariant-loop-i : goal.invariant-loop-i
-invariant-loop-i l = (l.i ≤ length l.initial.out) × (length l.out ≡ length l.initial.out) × (unhex l.digits ≡ take l.i l.out ++ unhex (drop (2 * l.i) l.digits))
+invariant-loop-i l = unhex l.digits ≡ take l.i l.out ++ unhex (drop (2 * l.i) l.digits)

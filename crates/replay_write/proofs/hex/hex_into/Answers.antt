@@ -7,15 +7,6 @@ use lib.ListN.{get_or, length-set}
 use Rattle.replay_write.proofs.Digits.{hex-more, hex_all}
 use Rattle.replay_write.proofs.hex.hex_into.Goals as goal
 
-pub loop-i-init : goal.loop-i-init
-loop-i-init c = (omega arith, refl, refl)
-
-pub digit-requires : goal.digit-requires
-digit-requires c = omega (arith, c.type_inv.bytes c.loop-i.i)
-
-pub digit-requires-in-loop-i : goal.digit-requires-in-loop-i
-digit-requires-in-loop-i c = mask_lt (get_or c.args.bytes.now c.loop-i.i 0) 4
-
 pub loop-i-preserved : goal.loop-i-preserved
 loop-i-preserved c =
     let at = c.loop-i in

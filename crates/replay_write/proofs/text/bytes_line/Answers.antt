@@ -10,15 +10,6 @@ returns-then-text-lt5 c = let a = c.args in no-bytes_line a.kind a.bytes.now a.t
 pub returns-then-text-bytes : goal.returns-then-text-bytes
 returns-then-text-bytes c = let a = c.args in no-bytes_line a.kind a.bytes.now a.text.now (omega arith)
 
-pub slice_bounds-hex_into-end : goal.slice_bounds-hex_into-end
-slice_bounds-hex_into-end c = simp length-set (omega (arith, c.copy.auto))
-
-pub hex_into-requires : goal.hex_into-requires
-hex_into-requires c = simp (length-take, length-drop, length-set) (omega (arith, c.copy.auto))
-
-pub shape_of-text : goal.shape_of-text
-shape_of-text c = simp (length-append, length-take, length-drop, length-set) (omega (arith, c.hex_into.auto, c.copy.auto))
-
 pub returns : goal.returns
 returns c =
     let a = c.args in

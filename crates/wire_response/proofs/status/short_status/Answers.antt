@@ -10,7 +10,6 @@ use lib.Dec.{eqb}
 use lib.Pow.{shr-shr}
 use Rattle.crc.specs.Bits.{bit, bits, number}
 use Rattle.crc.proofs.Bits.{number-bits, bits_cong, bits-join}
-use Rattle.codec.proofs.Masks.{join-bits}
 use Rattle.wire_response.specs.Status.{short_status}
 use Rattle.wire_response.proofs.status.short_status.Goals as goal
 
@@ -76,9 +75,6 @@ module _ (n : ℕ) where
       ∙ short n two one high (high * 2 ^ 13 + rest) (and_mask (n / 2 ^ 22) 2) (and_mask (n / 2 ^ 19) 1)
       (bits-join 2 1 two one (mask_lt (n / 2 ^ 19) 1))
       (bits-join 3 13 high rest (mask_lt n 13) ∙ ap (λ (q : List Bool). bits 3 high ++ q) (ap (bits 13) (and_mask n 13) ∙ bits_cong 13 (n % 2 ^ 13) n (mod-mod n (2 ^ 13))))
-
-pub overflow_cast-result : goal.overflow_cast-result
-overflow_cast-result c = record { fits = word_fits c.args.status }
 
 pub returns : goal.returns
 returns c = word_right c.args.status

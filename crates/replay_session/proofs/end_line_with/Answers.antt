@@ -1,0 +1,11 @@
+-- The answer goes to its place in the text.
+use mathlib.Core.Path.{refl}
+use Rattle.replay_session.proofs.Ended.{all-behind, line-ends, played-by}
+use Rattle.replay_session.proofs.end_line_with.Goals as goal
+
+pub returns : goal.returns
+returns g c =
+    let at = c.place-at.ensures in
+    line-ends c.args.s _ _ c.args.text.now _ _ _ c.play-played.result at.0 at.1 _ (
+    played-by _ _ _ _ _ _ _ _ _ _ c.play-played.ensures refl c.front.ensures (all-behind c.place-at.result c.args.text.now)
+    ) _ c.end.ensures
