@@ -13,7 +13,7 @@ pub enum Response {
     Cid,
     Csd,
     R3(u32),
-    // voltage 0 where it is not accepted, as the frame carries it
+    // voltage 0 where it is not accepted, as the frame and the model have it
     R7 { voltage: u8, pattern: u8 },
 }
 

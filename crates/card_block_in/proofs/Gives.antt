@@ -1,6 +1,6 @@
 -- What the rows of a block in that do not apply tell.
 use mathlib.Core.Path.{◌≡◌, refl, sym, ap, ap₂, ◌∙◌}
-use mathlib.Core.Bool.{Bool, true, false, cond, not, ◌||◌, true≢false, false≢true}
+use mathlib.Core.Bool.{Bool, true, false, cond, not, ◌||◌, true≢false}
 use mathlib.Core.List.{List, []}
 use mathlib.Core.Logic.{◌⊎◌, inl, inr}
 use mathlib.Core.Option.{none}
@@ -14,27 +14,23 @@ use Rattle.card.specs.declared.done.Flag.TheVariants.{Keep}
 use Rattle.card.specs.declared.State.{State}
 use Rattle.card.specs.declared.Source.{Source}
 use Rattle.card.specs.declared.Sink.{Sink}
-use Rattle.card.specs.declared.Sink.TheVariants.{Single, Multiple, LockUnlock}
 use Rattle.card.specs.declared.Open.{Open}
 use Rattle.card.specs.declared.Open.TheVariants.{Nothing, Read, Write, Busy}
 use Rattle.card.specs.declared.Core.{Core}
-use Rattle.card.specs.declared.Password.{Password}
 use Rattle.card.specs.declared.Card.{Card}
 use Rattle.card.specs.Settings.{BLOCK}
-use Rattle.card.specs.State.{open_of, writing, locking, sink_address, sink}
+use Rattle.card.specs.State.{open_of, writing, locking, sink_address}
 use Rattle.card.specs.Soundness.{unsound, off_write}
-use Rattle.card.specs.Frame.{Turn, quiet}
-use Rattle.card.specs.Data.{write_into, block_into, password_into}
+use Rattle.card.specs.Frame.{quiet}
+use Rattle.card.specs.Data.{block_into, password_into}
 use Rattle.card.specs.Step.{BLOCK_ROWS, applies, refusal, incoming, token_size, packet_size, lone_byte, other_block}
-use Rattle.card_call.specs.Seen.{Seen, turned, turned_with}
-use Rattle.card_lock_in.specs.Operates.{succeeded, lock_turned}
+use Rattle.card_call.specs.Seen.{Seen, turned}
 use Rattle.card_token.specs.declared.Arrived.TheVariants.{Packet}
 use Rattle.card_token.specs.Tokens.{other_length, kind}
 use Rattle.card_token.proofs.Tokens.{packet-long}
 use Rattle.card_refuse.specs.Rows.{rows_of}
 use Rattle.card.proofs.Facts.{facts-sound}
 use Rattle.card_refuse.proofs.Passed.{passed, sound_record, sized}
-use Rattle.card_state.specs.declared.Transfer.{Transfer}
 use Rattle.card_block_in.specs.Enters.{Enters, payload_turned, packet_turned}
 
 aligned : (o : Open) → off_write o ≡ false → (s : Sink) → o ≡ Write s → sink_address s % BLOCK ≡ 0

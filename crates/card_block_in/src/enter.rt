@@ -1,5 +1,5 @@
 // A packet that came in: its check, and the open transfer that its payload goes into.
-ghost use Rattle.std.specs.Prelude.{◌≡◌, [], false, not, ◌||◌, drop, length};
+ghost use Rattle.std.specs.Prelude.{◌≡◌, [], false, not, ◌||◌, length};
 ghost use Rattle.wire_packet.specs.Packet.{packet_right};
 ghost use Rattle.card.specs.declared.Open.TheVariants.{Write};
 ghost use Rattle.card.specs.Settings.{BLOCK};
@@ -49,21 +49,13 @@ fn write_sink(sink: Sink, card: Card, right: bool, payload: &[u8], memory: &mut 
     }
 }
 
-// The packet stands behind the first bytes of a block, so many; no byte is moved but to its place in memory.
-pub(crate) fn enter(
-    card: Card,
-    o: Open,
-    checks: bool,
-    at: usize,
-    block: &[u8],
-    memory: &mut [u8],
-) -> Stepped
-    requires { Enters card.core o memory.old (drop at block.now) }
-    ensures { returned result memory.new [] ≡ packet_turned card o checks (drop at block.now) memory.old }
+// No byte is moved but to its place in memory.
+pub(crate) fn enter(card: Card, o: Open, checks: bool, packet: &[u8], memory: &mut [u8]) -> Stepped
+    requires { Enters card.core o memory.old packet.now }
+    ensures { returned result memory.new [] ≡ packet_turned card o checks packet.now memory.old }
 {
-    let end = block.len() - CHECK;
-    let right = packet_right(checks, &block[at..]);
-    let payload = &block[at..end];
+    let right = packet_right(checks, packet);
+    let payload = &packet[..packet.len() - CHECK];
     match o {
         Open::Write(sink) => write_sink(sink, card, right, payload, memory),
         // row 5 has refused the call

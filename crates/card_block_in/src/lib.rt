@@ -16,7 +16,7 @@ use card_refuse::{check, rows};
 use card_start::moves::moved;
 use card_state::checking;
 use card_token::{Arrived, incoming, other_block, token_size};
-use codec::Refusal;
+use codec::{Refusal, behind};
 
 pub fn block_in(card: Card, block: &[u8], memory: &mut [u8]) -> Stepped
     ensures { returned result memory.new [] ≡ stepped card memory.old (block_in block.now) }
@@ -47,8 +47,7 @@ pub fn block_in(card: Card, block: &[u8], memory: &mut [u8]) -> Stepped
             card,
             open,
             checking(mode),
-            token_size(mode),
-            block,
+            behind(block, token_size(mode)),
             memory,
         ),
         Arrived::Stop => {

@@ -1,10 +1,10 @@
 -- Blocks swept one after the other, and a part of memory put back zeroed.
 use mathlib.Core.Path.{◌≡◌, refl, sym, ap, ap₂, ◌∙◌}
-use mathlib.Core.Bool.{Bool, true, false, cond}
+use mathlib.Core.Bool.{Bool, false, cond}
 use mathlib.Core.List.{List, ◌++◌, append-nil}
 use Prim.Native.Nat.{ℕ, ◌+◌, ◌-◌, ◌*◌, ◌<◌, ◌≤◌}
 use native.Mathlib.Omega.{arith}
-use borrow.Rule.Slice.PartMut.{mid_of, put_mid, put_same, mid_len, Post-is}
+use borrow.Rule.Slice.PartMut.{mid_of, put_mid, mid_len, Post-is}
 use lib.ListN.{length, take, drop, replicate, length-replicate, drop_of_length-le}
 use Rattle.card.specs.Settings.{BLOCK}
 use Rattle.card.specs.Protect.{guarded}

@@ -10,7 +10,7 @@ use card::done::Effect;
 use card::size::BLOCK;
 use card_protect::{guarded_block, mark};
 
-// Zeroes bytes, but for so many at the end.
+// Zeroes bytes, but for so many at the end; every caller says 0, so that a wrong force erase differs from the right one in a number alone.
 fn zero(kept: usize, part: &mut [u8])
     ensures { part.new ≡ zeroed (length part.old - kept) part.old }
 {

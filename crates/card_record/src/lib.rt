@@ -105,7 +105,7 @@ pub fn with_polls(c: Core, polls: u8) -> Core
     with_bus(c, Bus { polls, ..c.bus })
 }
 
-// A status bit is set, by its number.
+// A status bit is set, by its number, which may be any.
 pub fn raise(c: Core, n: u8) -> Core
     ensures { result ≡ raise c n }
 {

@@ -12,7 +12,8 @@ use card_settings::capacity;
 use card_sound::{bad_password, unsound};
 use codec::Refusal;
 
-// For the calls but power-up, with the lengths of the password and of memory.
+// For the calls but power-up, with the lengths of the password and of memory. The last three stand in the table's order, in which `Rows`
+// would only name them once more.
 pub fn rows(c: Core, password: u8, memory: usize, size: bool, buffer: bool, closed: bool) -> Rows
     ensures { result ≡ rows_of c password memory size buffer closed }
 {

@@ -17,8 +17,8 @@ use card_transfer::{
     lock_unlock, read_blocks, send, send_write_prot, set_blocklen, set_mark, write_blocks,
 };
 
-// With what its argument is as an address. An arm for each command, in the table's order; those that only
-// answer share one.
+// With what its argument is as an address. An arm for each command, in the table's order, which arms joined
+// by what they do would break; those that only answer share one.
 #[tactic(auto, unfolding(card::specs::Execute::run_at))]
 fn run_at(command: Command, c: Core, argument: u32, a: u32) -> Done
     ensures { result ≡ run_at command c argument a }

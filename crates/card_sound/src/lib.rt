@@ -45,14 +45,13 @@ fn unsound_rest(c: Core) -> bool
 {
     let blocks = c.settings.blocks;
     let top = capacity(blocks);
-    let spi = card_state::in_spi(c.bus.mode);
     blocks < c.written
         || state::written_most(card_state::open(c.bus.state), blocks) < c.written
         || state::mark_outside(top, c.erase.first)
         || state::mark_outside(top, c.erase.second)
-        || state::bad_rca(spi, c.bus.state, c.bus.rca)
+        || state::bad_rca(c.bus)
         || marks::marked_from(&c.marks, card_settings::groups(blocks))
-        || state::bad_app(spi, c.bus.state, c.bus.app)
+        || state::bad_app(c.bus)
 }
 
 // The items of 01's list that a record can break, in its order.

@@ -1,12 +1,12 @@
 // What is asked of the transfer, of an erase mark, and of the state in a bus mode.
 ghost use Rattle.std.specs.Prelude.{◌≡◌};
-ghost use Rattle.card.specs.State.{number};
+ghost use Rattle.card.specs.State.{number, in_spi};
 ghost use Rattle.card.specs.Soundness.{off_write, sink_most, written_most, mark_outside, bad_rca, bad_app};
 
 use card::size::BLOCK;
-use card::{Open, Sink, State};
+use card::{Bus, Open, Sink, State};
 use card_settings::outside;
-use card_state::sink_address;
+use card_state::{in_spi, sink_address};
 
 // A write's address is no multiple of a block.
 pub(crate) fn off_write(o: Open) -> bool
@@ -46,23 +46,23 @@ pub(crate) fn mark_outside(top: u64, mark: Option<u32>) -> bool
 
 // In SD mode: the RCA is nonzero in idle, ready and ident, or zero in stby to dis; free in ina.
 #[tactic(auto, unfolding(card::specs::Soundness::bad_rca))]
-pub(crate) fn bad_rca(spi: bool, state: State, rca: u16) -> bool
-    ensures { result ≡ bad_rca spi (number state) rca }
+pub(crate) fn bad_rca(bus: Bus) -> bool
+    ensures { result ≡ bad_rca (in_spi bus.mode) (number bus.state) bus.rca }
 {
-    if spi {
+    if in_spi(bus.mode) {
         return false;
     }
-    match state {
-        State::Idle | State::Ready | State::Ident => rca != 0,
+    match bus.state {
+        State::Idle | State::Ready | State::Ident => bus.rca != 0,
         State::Ina => false,
-        _ => rca == 0,
+        _ => bus.rca == 0,
     }
 }
 
 // In SD mode: the application mark in ready, ident or ina.
 #[tactic(auto, unfolding(card::specs::Soundness::bad_app))]
-pub(crate) fn bad_app(spi: bool, state: State, app: bool) -> bool
-    ensures { result ≡ bad_app spi (number state) app }
+pub(crate) fn bad_app(bus: Bus) -> bool
+    ensures { result ≡ bad_app (in_spi bus.mode) (number bus.state) bus.app }
 {
-    !spi && app && matches!(state, State::Ready | State::Ident | State::Ina)
+    !in_spi(bus.mode) && bus.app && matches!(bus.state, State::Ready | State::Ident | State::Ina)
 }

@@ -49,7 +49,7 @@ pub fn write_check(top: u64, length: u16, wp: bool, address: u32) -> Result<(), 
     Ok(())
 }
 
-// What a command does, unless a start check failed: then R1 shows the bit.
+// What a command does, unless a start check failed: then R1 shows the bit of that number, which may be any.
 pub fn checked(c: Core, verdict: Result<(), u8>, done: Done) -> Done
     ensures { result ≡ outcome c (failure verdict) done }
 {

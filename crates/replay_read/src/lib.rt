@@ -27,10 +27,7 @@ pub fn field<const N: usize>(digits: &[u8]) -> Option<[u8; N]>
     ensures { result ≡ field_read (2 * N) digits.now }
 {
     let mut bytes = [0u8; N];
-    if !unhex(digits, &mut bytes) {
-        return None;
-    }
-    Some(bytes)
+    unhex(digits, &mut bytes).then_some(bytes)
 }
 
 // A field of as many bytes as there is room for, in the front of the buffer.

@@ -16,7 +16,7 @@ pub fn encode_r1(index: u8, status: u32, out: &mut [u8]) -> Result<usize, Refusa
     wire_frame::frame::encode(index < 64, true, index, status, out)
 }
 
-// 3Fh, then the 16 bytes of a register as they are, its own check among them.
+// 3Fh, then the 16 bytes of a register as they are, its own check among them. No field can be too wide, which `writable` asks too.
 #[tactic(auto, unfolding(crate::specs::Response::encode_r2))]
 pub fn encode_r2(register: &[u8], out: &mut [u8]) -> Result<usize, Refusal>
     ensures { encoding result out.new ≡ encode_r2 register.now out.old }

@@ -20,7 +20,7 @@ use Rattle.card_refuse.proofs.Refusals.{none-applies, refuses, runs}
 use Rattle.card_token.specs.declared.Arrived.{Arrived}
 use Rattle.card_token.specs.Tokens.{other_length, kind}
 use Rattle.card_token.proofs.Tokens.{packet_as, stop_as, ignored_as}
-use Rattle.card_block_in.specs.Enters.{Enters}
+use Rattle.card_block_in.specs.Enters.{Enters, packet_turned}
 use Rattle.card_block_in.proofs.Gives.{enters, same_rows, same-packet}
 use Rattle.card_block_in.proofs.block_in.Goals as goal
 
@@ -58,7 +58,7 @@ enter-requires c =
     let args = c.args in
     let s = args.block.now in
     let same = rows_as args.card args.memory.now s c.open-open.ensures c.other_block.ensures c.writing.ensures c.rows-r.ensures in
-    subst (λ (n : ℕ). Enters args.card.core c.open-open.result args.memory.now (drop n s)) (sym c.token_size.ensures.0)
+    subst (λ (p : List ℕ). Enters args.card.core c.open-open.result args.memory.now p) (sym (c.behind.ensures ∙ ap (λ (n : ℕ). drop n s) c.token_size.ensures.0))
     (enters args.card.core _ args.memory.now s _ (none-applies c.check.result BLOCK_ROWS c.rows-r.result _ c.check.ensures same c.in_default.is)
     c.open-open.result c.open-open.ensures (sym c.incoming.ensures ∙ c.in-Packet.is))
 
@@ -72,7 +72,8 @@ returns-in-Packet c =
     (rows_as args.card args.memory.now s c.open-open.ensures c.other_block.ensures c.writing.ensures c.rows-r.ensures) c.in_default.is
     (packet_in (checking mode) (drop (token_size mode) s)) _
     (packet_as mode (open_of args.card.core.bus.state) s (told args.card args.memory.now s c.open-open.ensures c.incoming.ensures ∙ c.in-Packet.is))
-    (same-packet args.card s args.memory.now c.open-open.ensures c.checking.ensures c.token_size.ensures.0 c.enter.ensures)
+    (same-packet args.card s args.memory.now c.open-open.ensures c.checking.ensures c.token_size.ensures.0
+    (c.enter.ensures ∙ ap (λ (p : List ℕ). packet_turned args.card c.open-open.result c.checking.result p args.memory.now) c.behind.ensures))
 
 pub returns-in-Stop : goal.returns-in-Stop
 unfolding entered

@@ -1,7 +1,6 @@
 -- Block after block: at the loop's head, sweeping the blocks left of memory as it is gives the whole sweep.
-use mathlib.Core.Path.{◌≡◌, refl, sym, ap, ◌∙◌}
-use Prim.Native.Nat.{ℕ, ◌+◌, ◌-◌, ◌*◌}
-use native.Mathlib.Omega.{arith}
+use mathlib.Core.Path.{sym, ap, ◌∙◌}
+use Prim.Native.Nat.{◌+◌, ◌*◌}
 use borrow.Author.Tests.{le-leb}
 use lib.ListN.{length}
 use Rattle.card.specs.Settings.{BLOCK}

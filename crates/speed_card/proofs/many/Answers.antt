@@ -1,11 +1,8 @@
 -- At the loop's head, the calls left end where all of them do.
 use native.Mathlib.Omega.{arith}
 use Rattle.std.proofs.Common.{of_calls}
-use Rattle.speed_card.proofs.Runs.{all_left, less, none_left}
+use Rattle.speed_card.proofs.Runs.{less, none_left}
 use Rattle.speed_card.proofs.many.Goals as goal
-
-pub loop-init : goal.loop-init
-loop-init g c = (omega arith, omega arith, search of_calls, all_left (goal.F-step g) _ _ _)
 
 pub loop-preserved : goal.loop-preserved
 loop-preserved g c = (

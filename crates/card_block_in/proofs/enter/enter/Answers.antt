@@ -1,9 +1,6 @@
--- Into the transfer that is open; its check and its payload lie behind the token.
-use mathlib.Core.Path.{refl, ap, ap₂, ◌∙◌}
+-- Into the transfer that is open.
+use mathlib.Core.Path.{refl, ap, ◌∙◌}
 use mathlib.Core.Bool.{Bool, not, ◌||◌}
-use mathlib.Core.List.{List}
-use Prim.Native.Nat.{ℕ}
-use lib.ListN.{length, drop}
 use Rattle.wire_packet.specs.Packet.{payload_of, packet_right}
 use Rattle.card.specs.declared.answer.Answer.TheVariants.{Silence}
 use Rattle.card.specs.declared.Open.TheVariants.{Write}
@@ -15,25 +12,22 @@ use Rattle.card_block_in.proofs.Gives.{unwritten}
 use Rattle.card_block_in.proofs.enter.enter.Goals as goal
 
 pub write_sink-requires : goal.write_sink-requires
-write_sink-requires c = (
-  c.requires.stores _ c.in-Write.is,
-  λ e. ap length (Blocks.lies c.args.block.now c.args.at c.requires.decodes) ∙ Blocks.length-payload _ (c.requires.whole (ap locking c.in-Write.is ∙ e)),
-)
+unfolding payload_of
+write_sink-requires c =
+    (c.requires.stores _ c.in-Write.is, λ e. Blocks.length-payload _ (c.requires.whole (ap locking c.in-Write.is ∙ e)))
 
 pub returns-in-Write : goal.returns-in-Write
+unfolding payload_of
 returns-in-Write c =
     let args = c.args in
-    let s = args.block.now in
     rw c.in-Write.is
     (c.write_sink.ensures
-    ∙ ap₂ (λ (b : Bool) (p : List ℕ). payload_turned args.card (Write c.in-Write.sink) b p args.memory.now)
-    (c.packet_right-right.ensures ∙ ap (λ (p : List ℕ). not args.checks || packet_right p) (Blocks.rest s args.at c.requires.decodes))
-    (Blocks.lies s args.at c.requires.decodes))
+    ∙ ap (λ (b : Bool). payload_turned args.card (Write c.in-Write.sink) b (payload_of args.packet.now) args.memory.now) c.packet_right-right.ensures)
 
 pub returns-in-Nothing : goal.returns-in-Nothing
 returns-in-Nothing c =
     let args = c.args in
     let card = args.card in
-    let p = drop args.at args.block.now in
+    let p = args.packet.now in
     unwritten card (not args.checks || packet_right p) (payload_of p) args.memory.now c.in-Nothing.is
     (Turns.silent (Turns.after card card.core Silence) card card.core card.core refl refl args.memory.now _ refl)
