@@ -1,12 +1,11 @@
--- The library's `any` by what the closure computes.
-use mathlib.Core.Path.{◌∙◌}
-use Rattle.std.proofs.Common.{rules, tests}
-use Rattle.std.proofs.lemmas.Iterator.{YieldsList-from_slice}
-use Rattle.std.proofs.lemmas.Iterator.Search.{any_from_yields_List}
-use Rattle.card_sound.proofs.Walks.{any_is}
+-- At the loop's head, what was found, or something in the bytes that are left.
+use mathlib.Core.Path.{sym, ◌∙◌}
+use Rattle.card_sound.proofs.Walks.{any_byte-next, any_byte-end}
+use borrow.Author.Rules.{rules}
 use Rattle.card_sound.proofs.marks.any_byte.Goals as goal
 
+pub loop-byte-preserved : goal.loop-byte-preserved
+loop-byte-preserved c = c.loop-byte.invariant ∙ any_byte-next c.args.marks.now c.loop-byte.byte-index c.loop-byte.found (search rules)
+
 pub returns : goal.returns
-returns c =
-    any_from_yields_List _ _ _ _ c.any.ensures.ran (YieldsList-from_slice c.args.marks.now c.iter.ensures.rest) (λ x b q k. search (rules, tests))
-    ∙ any_is c.args.marks.now
+returns c = sym (c.loop-byte.invariant ∙ any_byte-end c.args.marks.now c.loop-byte.byte-index c.loop-byte.found (search rules))
