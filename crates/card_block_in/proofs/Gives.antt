@@ -19,10 +19,10 @@ use Rattle.card.specs.declared.Open.TheVariants.{Nothing, Read, Write, Busy}
 use Rattle.card.specs.declared.Core.{Core}
 use Rattle.card.specs.declared.Card.{Card}
 use Rattle.card.specs.Settings.{BLOCK}
-use Rattle.card.specs.State.{open_of, writing, locking, sink_address}
+use Rattle.card.specs.State.{open_of, writing, locking, sink_address, sink}
 use Rattle.card.specs.Soundness.{unsound, off_write}
 use Rattle.card.specs.Frame.{quiet}
-use Rattle.card.specs.Data.{block_into, password_into}
+use Rattle.card.specs.Data.{write_into, block_into, password_into}
 use Rattle.card.specs.Step.{BLOCK_ROWS, applies, refusal, incoming, token_size, packet_size, lone_byte, other_block}
 use Rattle.card_call.specs.Seen.{Seen, turned}
 use Rattle.card_token.specs.declared.Arrived.TheVariants.{Packet}
@@ -31,6 +31,7 @@ use Rattle.card_token.proofs.Tokens.{packet-long}
 use Rattle.card_refuse.specs.Rows.{rows_of}
 use Rattle.card.proofs.Facts.{facts-sound}
 use Rattle.card_refuse.proofs.Passed.{passed, sound_record, sized}
+use Rattle.card_state.specs.declared.Transfer.{Transfer}
 use Rattle.card_block_in.specs.Enters.{Enters, payload_turned, packet_turned}
 
 aligned : (o : Open) → off_write o ≡ false → (s : Sink) → o ≡ Write s → sink_address s % BLOCK ≡ 0
@@ -84,6 +85,22 @@ module _ (c : Core) (password : ℕ) (memory block : List ℕ) (closed : Bool)
           decodes = record { low = bounds.0; high = bounds.1 };
           whole = λ e. sized_as ∙ ap (λ (b : Bool). cond b c.length BLOCK + CHECK) e;
         }
+
+-- ---- a transfer of 24 or 25
+
+written : (card : Card) (right : Bool) (s memory : List ℕ) (multiple : Bool) (address : ℕ) (held : Bool)
+    → turned card memory [] (write_into multiple address held right card.core s) ≡ payload_turned card (Write (sink multiple address held)) right s memory
+unfolding block_into password_into
+written card right s memory true address held = refl
+written card right s memory false address held = refl
+
+pub written_as : (card : Card) {to : Sink} (right : Bool) (s memory : List ℕ) {v : Seen} {t : Transfer} (u : Transfer) → t ≡ u → to ≡ sink u.multiple u.address u.held
+    → v ≡ turned card memory [] (write_into t.multiple t.address t.held right card.core s) → v ≡ payload_turned card (Write to) right s memory
+written_as card right s memory u e told h =
+    h
+    ∙ ap (λ (x : Transfer). turned card memory [] (write_into x.multiple x.address x.held right card.core s)) e
+    ∙ written card right s memory u.multiple u.address u.held
+    ∙ ap (λ (x : Sink). payload_turned card (Write x) right s memory) (sym told)
 
 -- ---- no write is open
 

@@ -28,25 +28,20 @@ fn write_sink(sink: Sink, card: Card, right: bool, payload: &[u8], memory: &mut 
     requires { Stores card.core (sink_address sink) memory.old × (sink_locks sink ≡ false → length payload.now ≡ BLOCK) }
     ensures { returned result memory.new [] ≡ payload_turned card (Write sink) right payload.now memory.old }
 {
-    match sink {
-        Sink::LockUnlock => lock_into(card, right, payload, memory),
-        Sink::Single { address, held } => {
-            let t = Transfer {
-                multiple: false,
-                address,
-                held,
-            };
-            write_into(card, right, payload, memory, t)
-        }
-        Sink::Multiple { address, held } => {
-            let t = Transfer {
-                multiple: true,
-                address,
-                held,
-            };
-            write_into(card, right, payload, memory, t)
-        }
-    }
+    let t = match sink {
+        Sink::LockUnlock => return lock_into(card, right, payload, memory),
+        Sink::Single { address, held } => Transfer {
+            multiple: false,
+            address,
+            held,
+        },
+        Sink::Multiple { address, held } => Transfer {
+            multiple: true,
+            address,
+            held,
+        },
+    };
+    write_into(card, right, payload, memory, t)
 }
 
 // No byte is moved but to its place in memory.
