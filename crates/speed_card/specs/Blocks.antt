@@ -1,10 +1,8 @@
 -- So many blocks of a transfer: the model's step, call after call.
-use Rattle.std.specs.Prelude.{◌≡◌, cond, List, [], ◌∷◌, ℕ, zero, suc, ◌+◌, eqb, leb}
+use Rattle.std.specs.Prelude.{cond, List, [], ◌∷◌, ℕ, zero, suc, ◌+◌, eqb, leb}
 use Rattle.codec.specs.Answer.{Outcome, done, refused}
 use Rattle.card.specs.Data.{ACCEPTED}
-use Rattle.card.specs.Step.{World, Call, block_in, Reply, silent, sent, answered, over, answer, step}
-use Rattle.card.specs.declared.Card.{Card}
-use Rattle.card_call.specs.declared.Stepped.{Stepped}
+use Rattle.card.specs.Step.{World, Call, block_in, Reply, silent, sent, answered, over, step}
 
 -- 18 and 25, both from address 0
 abbrev pub READ : List ℕ
@@ -43,9 +41,3 @@ many call k w out = more call k w out 0
 -- the same block again, which has no output buffer
 abbrev pub again : List ℕ → List ℕ → Call
 again block out = block_in block
-
--- so many calls of a closure, each with the record that the one before left, and how many were right
-unfoldable pub Times : {F : Type 0} → (F → Card → Stepped → F → Type 0) → ℕ → F → Card → ℕ → F → ℕ → Type 0
-Times calls zero f card n last all = (f ≡ last) × (n ≡ all)
-Times calls (suc k) f card n last all =
-    (s : Stepped) × (next : _) × calls f card s next × Times calls k next s.card (n + right (answer s.answer)) last all
