@@ -33,11 +33,11 @@ fn bring_up<R: Read>(rt: &impl Print, input: &mut R, begun: Host) -> std::io::Re
         };
         send(&out, n);
         let arrived = lines.line(input, &mut line)?;
-        let Some(heard) = read(front(&line, arrived), &mut bytes) else {
+        let Some(n) = read(front(&line, arrived), &mut bytes) else {
             bring_up_end::no_answer(rt, host.phase);
             return Ok(());
         };
-        stepped = host_step::step(host, heard, &mut out);
+        stepped = host_step::step(host, front(&bytes, n), &mut out);
     }
     Ok(())
 }

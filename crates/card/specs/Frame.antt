@@ -25,8 +25,8 @@ unfoldable pub judge : Core → ℕ → ℕ → Judged
 judge c index argument =
     let k = command_of c.bus index argument in
     cond (accepts k c.locked && legal k c.bus)
-    (cond (misses (row k).rca (own c.bus argument)) OtherCard (Ran k (run k (settled k c) argument)))
-    NotAllowed
+    (cond (misses (row k).rca (own c.bus argument)) (OtherCard k) (Ran k (run k (settled k c) argument)))
+    (NotAllowed k)
 
 -- ---- what a call comes to, before the line adds COM_CRC_ERROR and the checks
 

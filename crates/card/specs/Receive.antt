@@ -32,8 +32,8 @@ unfoldable pub shown_sd : Core → Bool → Command → Done → Turn
 shown_sd c low k d = cond (chooses low k) (finish_spi c.kept k (chosen d)) (finish k (number c.bus.state) d)
 
 unfoldable pub show_sd : Core → Bool → Judged → Turn
-show_sd c low NotAllowed = quiet (with_app (raise c ILLEGAL_COMMAND) false) Keep
-show_sd c low OtherCard = quiet (with_app c false) Keep
+show_sd c low (NotAllowed k) = quiet (with_app (raise c ILLEGAL_COMMAND) false) Keep
+show_sd c low (OtherCard k) = quiet (with_app c false) Keep
 show_sd c low (Ran k d) = shown_sd c low k d
 
 -- what the frame check says: start or transmission bit wrong, nothing changes (house); check or end bit wrong, COM_CRC_ERROR
@@ -51,8 +51,8 @@ receive_sd c low frame = cond (eqb (number c.bus.state) ina) (quiet c Keep) (by_
 
 -- no frame is for another card here
 unfoldable pub show_spi : Core → Judged → Turn
-show_spi c NotAllowed = said (with_app c false) (plain (error_r1 SpiBits.ILLEGAL_COMMAND c))
-show_spi c OtherCard = quiet c Keep
+show_spi c (NotAllowed k) = said (with_app c false) (plain (error_r1 SpiBits.ILLEGAL_COMMAND c))
+show_spi c (OtherCard k) = quiet c Keep
 show_spi c (Ran k d) = finish_spi c.kept k d
 
 unfoldable pub by_check_spi : FrameCheck → Core → Turn

@@ -43,9 +43,9 @@ pub struct Done {
 #[derive(Clone, Copy)]
 pub enum Judged {
     // not allowed in this state, or not in the table
-    NotAllowed,
+    NotAllowed { command: Command },
     // addressed to another RCA
-    OtherCard,
+    OtherCard { command: Command },
     Ran { command: Command, done: Done },
 }
 

@@ -80,11 +80,11 @@ pub fn show_sd(c: Core, low: bool, judged: Judged) -> Turned
     ensures { turned result ≡ show_sd c low judged }
 {
     match judged {
-        Judged::NotAllowed => quiet(
+        Judged::NotAllowed { .. } => quiet(
             with_app(raise(c, card_status::ILLEGAL_COMMAND), false),
             Flag::Keep,
         ),
-        Judged::OtherCard => quiet(with_app(c, false), Flag::Keep),
+        Judged::OtherCard { .. } => quiet(with_app(c, false), Flag::Keep),
         Judged::Ran { command, done } => shown_sd(c, low, command, done),
     }
 }

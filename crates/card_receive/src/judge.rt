@@ -15,10 +15,10 @@ pub fn judge(c: Core, index: u8, argument: u32) -> Judged
 {
     let command = command_of(c.bus, index, argument);
     if !(accepts(command, c.locked) && legal(command, c.bus)) {
-        return Judged::NotAllowed;
+        return Judged::NotAllowed { command };
     }
     if misses(command, own(c.bus, argument)) {
-        return Judged::OtherCard;
+        return Judged::OtherCard { command };
     }
     Judged::Ran {
         command,

@@ -9,26 +9,14 @@ use lib.ListN.{length, get_or, drop, drop_of_length-le}
 use lib.Seq.{drop-cons}
 use Rattle.card.specs.declared.answer.Rows.{Rows}
 use Rattle.card.specs.Step.{applies, refusal}
-use Rattle.codec.specs.Answer.{row_of, nonzero}
+use Rattle.codec.specs.Answer.{row_of}
 use Rattle.codec.specs.declared.Refusal.{Refusal}
-use Rattle.codec.specs.declared.Refusal.TheVariants.{Size, Record, Memory, Buffer, Closed, Setting, Wrong, Field}
-
--- no row has number 0
-pub numbered : (e : Refusal) → nonzero (row_of e) ≡ some (row_of e)
-numbered Size = refl
-numbered Record = refl
-numbered Memory = refl
-numbered Buffer = refl
-numbered Closed = refl
-numbered Setting = refl
-numbered Wrong = refl
-numbered Field = refl
 
 module _ (order : List Refusal) (r : Rows) (i : ℕ) (d : Refusal) where
   pub row-applies : i < length order → applies r (row_of (get_or order i d)) ≡ true
-      → nonzero (row_of (get_or order i d)) ≡ refusal (map row_of (drop i order)) r
+      → some (row_of (get_or order i d)) ≡ refusal (map row_of (drop i order)) r
   unfolding refusal
-  row-applies h e = numbered (get_or order i d) ∙ rw (drop-cons order i d h, e)
+  row-applies h e = rw (drop-cons order i d h, e)
 
   pub row-passes : i < length order → applies r (row_of (get_or order i d)) ≡ false
       → refusal (map row_of (drop i order)) r ≡ refusal (map row_of (drop (i + 1) order)) r

@@ -3,7 +3,7 @@
 
 ghost use Rattle.std.specs.Prelude.{◌≡◌, map};
 ghost use Rattle.card.specs.Step.{applies, refusal};
-ghost use Rattle.codec.specs.Answer.{row_of, number_of, nonzero};
+ghost use Rattle.codec.specs.Answer.{row_of, row_in};
 ghost use Rattle.card_refuse.specs.Rows.{rows_of};
 
 use card::Core;
@@ -38,13 +38,13 @@ fn applies(r: Rows, refusal: Refusal) -> bool
         Refusal::Buffer => r.buffer,
         Refusal::Closed => r.closed,
         Refusal::Setting => r.settings,
-        Refusal::Wrong | Refusal::Field => false,
+        Refusal::Wrong | Refusal::Field | Refusal::Other(_) => false,
     }
 }
 
 // The first of a call's rows that applies is its refusal.
 pub fn check(order: &[Refusal], r: Rows) -> Result<(), Refusal>
-    ensures { nonzero (number_of result) ≡ refusal (map row_of order.now) r }
+    ensures { row_in result ≡ refusal (map row_of order.now) r }
 {
     for refusal in order {
         if applies(r, *refusal) {

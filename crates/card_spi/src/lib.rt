@@ -74,8 +74,10 @@ pub fn show_spi(c: Core, judged: Judged) -> Turned
     ensures { turned result ≡ show_spi c judged }
 {
     match judged {
-        Judged::NotAllowed => error(with_app(c, false), byte::not_allowed(in_idle(c.bus.state))),
-        Judged::OtherCard => quiet(c, Flag::Keep),
+        Judged::NotAllowed { .. } => {
+            error(with_app(c, false), byte::not_allowed(in_idle(c.bus.state)))
+        }
+        Judged::OtherCard { .. } => quiet(c, Flag::Keep),
         Judged::Ran { command, done } => finish_spi(c, command, done),
     }
 }

@@ -3,7 +3,7 @@ use Rattle.std.specs.Prelude.{cond, List, ◌++◌, ℕ, eqb, length, drop, Resu
 use Rattle.std.specs.Borrow.{Bor}
 use Rattle.std.proofs.Math.Option.{Option, none, some}
 use Rattle.codec.specs.declared.Refusal.{Refusal}
-use Rattle.codec.specs.declared.Refusal.TheVariants.{Size, Record, Memory, Buffer, Closed, Setting, Wrong, Field}
+use Rattle.codec.specs.declared.Refusal.TheVariants.{Size, Record, Memory, Buffer, Closed, Setting, Wrong, Field, Other}
 
 -- what a call comes to: its values, or the number of its refusal
 pub data Outcome (A : Type 0) : Type 0 where
@@ -23,7 +23,7 @@ WRONG = 7
 abbrev pub FIELD : ℕ
 FIELD = 8
 
--- the row of 01's table that a refusal is
+-- the row of 01's table that a refusal is, or the number that no row has
 abbrev pub row_of : Refusal → ℕ
 row_of Size = SIZE
 row_of Record = 2
@@ -33,6 +33,7 @@ row_of Closed = 5
 row_of Setting = 6
 row_of Wrong = WRONG
 row_of Field = FIELD
+row_of (Other n) = n.number
 
 -- what a function returned: its values, or the number
 abbrev pub outcome_of : {A B : Type 0} → (A → B) → Result A Refusal → Outcome B
@@ -43,6 +44,11 @@ outcome_of f (Err e) = refused (row_of e)
 abbrev pub number_of : {A : Type 0} → Result A Refusal → ℕ
 number_of (Ok x) = 0
 number_of (Err e) = row_of e
+
+-- the row of a refusal, or none
+abbrev pub row_in : {A : Type 0} → Result A Refusal → Option ℕ
+row_in (Ok x) = none
+row_in (Err e) = some (row_of e)
 
 -- an encoder's answer: how many bytes it wrote, or the number
 abbrev pub encoded : Result ℕ Refusal → Outcome ℕ

@@ -7,6 +7,10 @@ ghost use Rattle.crc.specs.Crc.{crc, poly7};
 ghost use Rattle.codec.specs.Answer.{row_of};
 ghost use Rattle.codec.specs.Word.{joined};
 
+mod other_number;
+
+pub use other_number::OtherNumber;
+
 // Why a call is refused: the table of refused calls, row by row.
 #[derive(Clone, Copy, Debug, PartialEq, Eq)]
 pub enum Refusal {
@@ -20,6 +24,8 @@ pub enum Refusal {
     Wrong,
     // a field too wide
     Field,
+    // a number that no row has
+    Other(OtherNumber),
 }
 
 // The number of its row.
@@ -36,6 +42,26 @@ impl From<Refusal> for u8 {
             Refusal::Setting => 6,
             Refusal::Wrong => 7,
             Refusal::Field => 8,
+            Refusal::Other(other) => other.number,
+        }
+    }
+}
+
+// The refusal of a number, whichever it is.
+impl From<u8> for Refusal {
+    ghost from_gives = { λ number refusal. row_of refusal ≡ number };
+
+    fn from(number: u8) -> Refusal {
+        match number {
+            1 => Refusal::Size,
+            2 => Refusal::Record,
+            3 => Refusal::Memory,
+            4 => Refusal::Buffer,
+            5 => Refusal::Closed,
+            6 => Refusal::Setting,
+            7 => Refusal::Wrong,
+            8 => Refusal::Field,
+            _ => Refusal::Other(OtherNumber { number }),
         }
     }
 }
@@ -63,6 +89,16 @@ pub fn join(high: u64, width: u32, low: u64) -> u64
     (high << width) | (low & ((1u64 << width) - 1))
 }
 
+// The same of a word of 32 bits.
+pub fn join32(high: u32, width: u32, low: u32) -> u32
+    ensures { result ≡ joined 32 high width low }
+{
+    if width >= 32 {
+        return low;
+    }
+    (high << width) | (low & ((1u32 << width) - 1))
+}
+
 // The `width` bits of a word that end at bit `low`.
 pub fn field(word: u64, low: u32, width: u32) -> u64
     ensures { result ≡ word / 2 ^ low % 2 ^ width }
@@ -74,6 +110,19 @@ pub fn field(word: u64, low: u32, width: u32) -> u64
         return word >> low;
     }
     (word >> low) & ((1u64 << width) - 1)
+}
+
+// The same of a word of 32 bits.
+pub fn field32(word: u32, low: u32, width: u32) -> u32
+    ensures { result ≡ word / 2 ^ low % 2 ^ width }
+{
+    if low >= 32 {
+        return 0;
+    }
+    if width >= 32 {
+        return word >> low;
+    }
+    (word >> low) & ((1u32 << width) - 1)
 }
 
 // The number of up to eight bytes, high byte first; of more, the last eight count.

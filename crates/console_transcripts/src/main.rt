@@ -1,6 +1,8 @@
 // Plays the stored transcripts of the console one after the other, each from its beginning, as the console does.
 #![tactic(auto)]
 
+use console_run::Console;
+
 fn main(rt: HostRuntime) -> std::io::Result<()> {
     let names = [
         "power.in",
@@ -14,5 +16,5 @@ fn main(rt: HostRuntime) -> std::io::Result<()> {
         "sizes.in",
         "lines.in",
     ];
-    replay_run::stored(&rt, &names, console_run::run)
+    replay_run::stored(&rt, &names, &Console)
 }

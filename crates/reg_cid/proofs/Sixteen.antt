@@ -2,6 +2,7 @@
 use mathlib.Core.Path.{◌≡◌, refl, sym, ap, ap₂, ◌∙◌}
 use mathlib.Core.Bool.{Bool, true, false, cond}
 use mathlib.Core.List.{List, [], ◌∷◌, ◌++◌, append_assoc, append-nil}
+use mathlib.Core.Option.{none, some}
 use Prim.Native.Nat.{ℕ, ◌+◌, ◌*◌, ◌%◌, ◌^◌, ◌<◌, ◌≤◌}
 use native.Mathlib.Nat.{mod-mod}
 use native.Mathlib.Omega.{arith}
@@ -15,8 +16,7 @@ use Rattle.crc.specs.Crc.{crc, poly7}
 use Rattle.crc.proofs.Bits.{length-bits, length-bytes, bytes_append, bits_cong}
 use Rattle.crc.specs.Detection.{same}
 use Rattle.codec.specs.declared.Refusal.{Refusal}
-use Rattle.codec.specs.declared.Refusal.TheVariants.{Size, Record, Memory, Buffer, Closed, Setting, Wrong, Field}
-use Rattle.codec.specs.Answer.{row_of, done, refused, SIZE, WRONG}
+use Rattle.codec.specs.Answer.{row_of, nonzero, done, refused, SIZE, WRONG}
 use Rattle.codec.specs.Layout.{Slot, field, reserved, fixed, width, write, read, judged, fits}
 use Rattle.codec.specs.Format.{Format, crc7_from, ended, image, right, encode, decode}
 use Rattle.codec.proofs.Words.{right-ended, image-ended, bits_of-word}
@@ -131,15 +131,20 @@ emitted_encode fit first rest out slots vs h e = rw (h, e)
 
 -- ---- reading
 
-row_pos : (e : Refusal) → row_of e ≡ 0 → ⊥
-row_pos Size h = absurd (omega arith)
-row_pos Record h = absurd (omega arith)
-row_pos Memory h = absurd (omega arith)
-row_pos Buffer h = absurd (omega arith)
-row_pos Closed h = absurd (omega arith)
-row_pos Setting h = absurd (omega arith)
-row_pos Wrong h = absurd (omega arith)
-row_pos Field h = absurd (omega arith)
+-- a number that says which is that number, and none is said by 0 alone
+told_by : (b : Bool) (k n : ℕ) → some k ≡ cond b none (some n) → (b ≡ false) × (k ≡ n)
+told_by false k n e = (refl, cc)
+told_by true k n e = let z : ◌≡◌ {A = ℕ} 0 1 = cc in absurd (omega arith)
+
+none_by : (b : Bool) (n : ℕ) → none ≡ cond b none (some n) → b ≡ true
+none_by true n e = refl
+none_by false n e = let z : ◌≡◌ {A = ℕ} 0 1 = cc in absurd (omega arith)
+
+told : (k n : ℕ) → some k ≡ nonzero n → (k ≡ n) × (n ≡ 0 → ⊥)
+told k n e = let p = told_by (eqb n 0) k n e in (p.1, eqb-false n 0 p.0)
+
+none_told : (n : ℕ) → none ≡ nonzero n → 0 ≡ n
+none_told n e = sym (eqb-true n 0 (none_by (eqb n 0) n e))
 
 verdict_whole : (s : List ℕ) → 0 ≡ verdict s → length s ≡ 16
 verdict_whole s e = go (eqb (length s) 16) refl
@@ -186,13 +191,16 @@ module _ (slots : List Slot) (wide : width slots ≡ 120) (free : (bs : List Boo
       go false true = refl
       go false false = refl
 
-  pub decode_refused : (e : Refusal) → row_of e ≡ verdict s → refused (row_of e) ≡ decode (checked slots) s
-  decode_refused e h = ap refused h ∙ sym (rw (ne_eqb (verdict s) 0 (λ z. row_pos e (h ∙ z))) at decode-verdict)
+  pub decode_refused : (e : Refusal) → some (row_of e) ≡ nonzero (verdict s) → refused (row_of e) ≡ decode (checked slots) s
+  decode_refused e h =
+      let t = told (row_of e) (verdict s) h in
+      ap refused t.0 ∙ sym (rw (ne_eqb (verdict s) 0 t.1) at decode-verdict)
 
-  pub decode_fields : (a b : ℕ) → 0 ≡ verdict s
+  pub decode_fields : (a b : ℕ) → none ≡ nonzero (verdict s)
       → a ≡ number (bits_of (take 8 s)) % 2 ^ 64 → b ≡ number (bits_of (take 7 (drop 8 s))) % 2 ^ 64
       → done (read slots (content a b)) ≡ decode (checked slots) s
-  decode_fields a b e ha hb =
+  decode_fields a b none_is ha hb =
+      let e = none_told (verdict s) none_is in
       sym
       ((rw (eq-eqb (verdict s) 0 (sym e)) at decode-verdict)
       ∙ ap (λ (x : List Bool). done (read slots x)) (bits_of-content s (verdict_whole s e) a b ha hb)

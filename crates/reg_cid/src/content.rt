@@ -2,7 +2,7 @@
 // no plainer: `encode`, `sixteen` and `decode` of each are a call or two of these.
 ghost use Rattle.std.specs.Prelude.{◌≡◌, ◌%◌, ◌^◌, take, drop};
 ghost use Rattle.crc.specs.Bits.{bits_of, number};
-ghost use Rattle.codec.specs.Answer.{encoding, number_of};
+ghost use Rattle.codec.specs.Answer.{encoding, row_in, nonzero};
 ghost use Rattle.reg_cid.specs.Content.{sixteen, emitted, verdict};
 
 use codec::Refusal;
@@ -50,7 +50,7 @@ pub fn emit(fits: bool, w: Words, out: &mut [u8]) -> Result<usize, Refusal>
 
 // Rows 1 and 7, where size, check or end bit are wrong.
 pub fn judge(s: &[u8]) -> Result<(), Refusal>
-    ensures { number_of result ≡ verdict s.now }
+    ensures { row_in result ≡ nonzero (verdict s.now) }
 {
     if s.len() != 16 {
         return Err(Refusal::Size);

@@ -60,8 +60,9 @@ pub fn block(card: Card, memory: &mut [u8], bytes: &[u8], text: &mut [u8]) -> Re
 
 // Into an output buffer of any size.
 pub fn take(card: Card, memory: &[u8], out: &mut [u8], text: &mut [u8]) -> Replayed
-    ensures { shown result memory.now text.new
+    ensures answered { shown result memory.now text.new
         ≡ on_text (played Block (stepped card memory.now (take_block out.old))) text.old }
+    ensures buffer { out.new ≡ (stepped card memory.now (take_block out.old)).out }
 {
     let s = card_take::take(card, memory, out);
     answer_line(Kind::Block, s, out, text)

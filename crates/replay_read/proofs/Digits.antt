@@ -42,6 +42,22 @@ digit_at [] i h l = absurd (omega arith)
 digit_at (c ∷ s) zero h l = ltb-true _ _ ((and-eq-true_iff _ _).0 h).0
 digit_at (c ∷ s) (suc i) h l = digit_at s i ((and-eq-true_iff _ _).0 h).1 (omega arith)
 
+module _ (s : List ℕ) (i : ℕ) where
+  all_hex_at : i < length s → all_hex (drop i s) ≡ ltb (hex_value (get_or s i 0)) 16 && all_hex (drop (i + 1) s)
+  unfolding all_hex
+  all_hex_at h = rw (add-one i, drop-cons s i 0 h)
+
+  -- whether all were digits so far, and the characters that are left
+  pub all_hex-next : (right digit : Bool) → i < length s → digit ≡ ltb (hex_value (get_or s i 0)) 16
+      → right && all_hex (drop i s) ≡ (right && digit) && all_hex (drop (i + 1) s)
+  all_hex-next false digit h e = refl
+  all_hex-next true digit h e = all_hex_at h ∙ ap (λ (b : Bool). b && all_hex (drop (i + 1) s)) (sym e)
+
+  pub all_hex-end : (right : Bool) → length s ≤ i → right && all_hex (drop i s) ≡ right
+  unfolding all_hex
+  all_hex-end false h = refl
+  all_hex-end true h = rw (drop_of_length-le s h)
+
 chunk_at : (s : List ℕ) (k i : ℕ) → 2 * k ≤ length s → i < k
     → get_or (first_chunks 2 k s) i [] ≡ get_or s (2 * i) 0 ∷ get_or s (2 * i + 1) 0 ∷ []
 chunk_at s zero i h l = absurd (omega arith)

@@ -1,5 +1,5 @@
 -- A line of input (01, "Bench readings"), without its newline: a word, and for two of them a tab and hex digits.
-use Rattle.std.specs.Prelude.{cond, ◌&&◌, List, [], ◌∷◌, ℕ, ◌*◌, ◌%◌, eqb, leb, length, take, drop, Option, Some, None}
+use Rattle.std.specs.Prelude.{cond, ◌&&◌, List, [], ◌∷◌, ◌++◌, ℕ, ◌*◌, ◌/◌, ◌%◌, eqb, leb, length, take, drop, Option, Some, None}
 use Rattle.card.specs.Soundness.{equal}
 use Rattle.replay_read.specs.Hex.{all_hex, unhex}
 use Rattle.replay_read.specs.declared.Input.{Input}
@@ -58,6 +58,16 @@ field_read n s = cond (eqb (length s) n && all_hex s) (Some (unhex s)) None
 -- a field of up to so many bytes
 abbrev pub front_read : ℕ → List ℕ → Option (List ℕ)
 front_read most s = cond (leb (length s) (2 * most) && (eqb (length s % 2) 0 && all_hex s)) (Some (unhex s)) None
+
+-- .. in the front of a buffer, by how many they are
+abbrev pub in_front : Option ℕ → List ℕ → Option (List ℕ)
+in_front (Some n) out = Some (take n out)
+in_front None out = None
+
+-- .. which stays as it was where they cannot be read
+abbrev pub front_left : List ℕ → List ℕ → List ℕ
+front_left s out =
+    cond (leb (length s) (2 * length out) && (eqb (length s % 2) 0 && all_hex s)) (unhex s ++ drop (length s / 2) out) out
 
 -- the request that the code holds
 unfoldable pub request_of : Option Input → Request

@@ -15,10 +15,15 @@ fn value(c: u8) -> u8
     if c <= b'9' { c - b'0' } else { c - b'A' + 10 }
 }
 
+// It looks at all of them, many at once: with `all`, which stops at the first that is none, a line of a block takes half as long again.
 fn all_hex(digits: &[u8]) -> bool
     ensures { result ≡ all_hex digits.now }
 {
-    digits.iter().all(|c| is_digit(*c))
+    let mut right = true;
+    for digit in digits {
+        right = right & is_digit(*digit);
+    }
+    right
 }
 
 // The bytes of digits.

@@ -4,8 +4,7 @@
 ghost use Rattle.std.specs.Prelude.{◌≡◌, ◌<◌, ◌⊎◌, ◌*◌, [], ◌∷◌, take, length, IfOk, OnErr};
 ghost use Rattle.std.specs.Io.{ReadsAtMost};
 ghost use Rattle.std.specs.Io.KnownBytes.{Keeps, Consumes, IsAtEnd};
-ghost use Rattle.std.specs.Option.{option_copied};
-ghost use Rattle.replay_read.specs.Read.{read_line, held, field_read, front_read};
+ghost use Rattle.replay_read.specs.Read.{read_line, held, field_read, front_read, in_front, front_left};
 ghost use Rattle.replay_read.specs.Keep.{keep_byte, collected};
 
 pub mod hex;
@@ -30,9 +29,10 @@ pub fn field<const N: usize>(digits: &[u8]) -> Option<[u8; N]>
     unhex(digits, &mut bytes).then_some(bytes)
 }
 
-// A field of as many bytes as there is room for, in the front of the buffer.
-pub fn field_into<'a>(digits: &[u8], bytes: &'a mut [u8]) -> Option<&'a [u8]>
-    ensures { option_copied result ≡ front_read (length bytes.old) digits.now }
+// A field of as many bytes as there is room for, in the front of the buffer, and how many; a buffer of no field stays as it was.
+pub fn field_into(digits: &[u8], bytes: &mut [u8]) -> Option<usize>
+    ensures field { in_front result bytes.new ≡ front_read (length bytes.old) digits.now }
+    ensures buffer { bytes.new ≡ front_left digits.now bytes.old }
 {
     let n = digits.len() / 2;
     if n > bytes.len() {
@@ -42,7 +42,7 @@ pub fn field_into<'a>(digits: &[u8], bytes: &'a mut [u8]) -> Option<&'a [u8]>
     if !unhex(digits, front) {
         return None;
     }
-    Some(front)
+    Some(n)
 }
 
 // A line without its newline; none where it cannot be read.

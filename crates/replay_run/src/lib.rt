@@ -6,25 +6,46 @@ use codec::front;
 use replay_answer::Session;
 use replay_answer::bench::bench;
 use replay_read::fill;
-use replay_session::hear_all;
+use replay_session::{Bench, hear_all};
 use replay_write::zeros;
 use std::fs::File;
 use std::io::Read;
 use std::rt::Files;
 
-// Hands each chunk of the input to `hear`, and writes the answers to it at once. A proved loop has to end: it counts its reads to a
-// number that no run uses up.
-pub fn hear_input<R: Read, H>(
+// What hears a chunk of the input.
+pub trait Listener {
+    fn hear(
+        &self,
+        s: Session,
+        memory: &mut [u8],
+        line: &mut [u8],
+        text: &mut [u8],
+        chunk: &[u8],
+    ) -> Session;
+}
+
+impl Listener for Bench {
+    fn hear(
+        &self,
+        s: Session,
+        memory: &mut [u8],
+        line: &mut [u8],
+        text: &mut [u8],
+        chunk: &[u8],
+    ) -> Session {
+        hear_all(s, memory, line, text, chunk)
+    }
+}
+
+// Hands each chunk of the input to the listener, and writes the answers to it at once. A proved loop has to end: it counts its reads
+// to a number that no run uses up.
+pub fn hear_input<R: Read, L: Listener>(
     input: &mut R,
     card: Card,
     memory: &mut [u8],
     line: &mut [u8],
-    mut hear: H,
-) -> std::io::Result<()>
-where
-    H: FnMut(Session, &mut [u8], &mut [u8], &mut [u8], &[u8]) -> Session,
-    requires { H.IsAlwaysCallable hear }
-{
+    listener: &L,
+) -> std::io::Result<()> {
     // room for the answers to any 4,096 bytes, which are the longest where all are `take`s
     let mut text = zeros::<1048576>();
     let mut chunk = io::buffer();
@@ -38,7 +59,7 @@ where
         if n == 0 {
             break;
         }
-        s = hear(s, memory, line, &mut text, &chunk[..n]);
+        s = listener.hear(s, memory, line, &mut text, &chunk[..n]);
         io::write_all(1, front(&text, s.wrote));
         s.wrote = 0;
     }
@@ -49,24 +70,31 @@ pub fn run<R: Read>(input: &mut R) -> std::io::Result<()> {
     let mut memory = zeros();
     let mut line = [0u8; 1033];
     let card = bench(&memory);
-    hear_input(input, card, &mut memory, &mut line, hear_all)
+    hear_input(input, card, &mut memory, &mut line, &Bench)
+}
+
+// A program that plays an input from its beginning.
+pub trait Program {
+    fn run<R: Read>(&self, input: &mut R) -> std::io::Result<()>;
+}
+
+impl Program for Bench {
+    fn run<R: Read>(&self, input: &mut R) -> std::io::Result<()> {
+        run(input)
+    }
 }
 
 // Plays stored histories one after the other, each from its beginning. Of one that cannot be opened it says so, and goes on.
-pub fn stored<R: Files + Print + Eprint, P>(
+pub fn stored<R: Files + Print + Eprint, P: Program>(
     rt: &R,
     names: &[&str],
-    mut play: P,
-) -> std::io::Result<()>
-where
-    P: FnMut(&mut R::File) -> std::io::Result<()>,
-    requires { P.IsAlwaysCallable play }
-{
+    program: &P,
+) -> std::io::Result<()> {
     for name in names {
         match File::open(rt, *name) {
             Ok(mut file) => {
                 let _ = println!(rt; "# {name}");
-                play(&mut file)?;
+                program.run(&mut file)?;
             }
             Err(error) => eprintln!(rt; "{name}: {error}")?,
         }

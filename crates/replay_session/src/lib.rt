@@ -2,32 +2,29 @@
 #![tactic(auto)]
 
 ghost use Rattle.std.specs.Prelude.{◌≡◌};
-ghost use Rattle.replay_session.specs.Session.{line_ended, heard_all, session, PlayedBy, LineEnds, HearsAll};
+ghost use Rattle.replay_session.specs.Session.{line_ended, heard_all, session, LineEnds, HearsAll};
 
-use card::Card;
+mod player;
+
 use codec::front;
-use replay_answer::{Replayed, Session};
-use replay_line::play;
+pub use player::{Bench, Player};
+use replay_answer::Session;
 use replay_read::keep;
 use replay_write::{end, place};
 
-// The line that has arrived, played by `play`; its answer goes behind the others.
-fn end_line_with<P>(
+// The line that has arrived, played by the player; its answer goes behind the others.
+fn end_line_with<P: Player>(
     s: Session,
     memory: &mut [u8],
     line: &[u8],
     text: &mut [u8],
-    play: &P,
+    player: &P,
 ) -> Session
-where
-    P: Fn(Card, &mut [u8], &[u8], &mut [u8]) -> Replayed,
-    requires { P.IsAlwaysCallable play.now }
-    ensures { LineEnds (PlayedBy (P.post play.now)) (session s memory.old line.now text.old)
-        (session result memory.new line.now text.new) }
+    ensures { LineEnds P.plays (session s memory.old line.now text.old) (session result memory.new line.now text.new) }
 {
     let bytes = text.len();
     let at = place(text, s.wrote);
-    let played = play(s.card, memory, front(line, s.count), &mut text[at..]);
+    let played = player.play(s.card, memory, front(line, s.count), &mut text[at..]);
     Session {
         card: played.card,
         count: 0,
@@ -35,25 +32,21 @@ where
     }
 }
 
-// All bytes of a chunk: a newline ends a line, which is played by `play`, and others are kept.
-pub fn hear_all_with<P>(
+// All bytes of a chunk: a newline ends a line, which is played by the player, and others are kept.
+pub fn hear_all_with<P: Player>(
     s: Session,
     memory: &mut [u8],
     line: &mut [u8],
     text: &mut [u8],
     chunk: &[u8],
-    play: P,
+    player: &P,
 ) -> Session
-where
-    P: Fn(Card, &mut [u8], &[u8], &mut [u8]) -> Replayed,
-    requires { P.IsAlwaysCallable play }
-    ensures { HearsAll (PlayedBy (P.post play)) (session s memory.old line.old text.old) chunk.now
-        (session result memory.new line.new text.new) }
+    ensures { HearsAll P.plays (session s memory.old line.old text.old) chunk.now (session result memory.new line.new text.new) }
 {
     let mut now = s;
     for byte in chunk {
         if *byte == b'\n' {
-            now = end_line_with(now, memory, line, text, &play);
+            now = end_line_with(now, memory, line, text, player);
             continue;
         }
         now.count = keep(line, now.count, *byte);
@@ -66,7 +59,7 @@ pub fn end_line(s: Session, memory: &mut [u8], line: &[u8], text: &mut [u8]) -> 
     ensures { session result memory.new line.now text.new
         ≡ line_ended (session s memory.old line.now text.old) }
 {
-    end_line_with(s, memory, line, text, &play)
+    end_line_with(s, memory, line, text, &Bench)
 }
 
 // All bytes of a chunk, each line of them played on the card.
@@ -80,5 +73,5 @@ pub fn hear_all(
     ensures { session result memory.new line.new text.new
         ≡ heard_all (session s memory.old line.old text.old) chunk.now }
 {
-    hear_all_with(s, memory, line, text, chunk, play)
+    hear_all_with(s, memory, line, text, chunk, &Bench)
 }

@@ -1,6 +1,8 @@
 // Replays the stored transcripts one after the other, each on a card of its own, as the replay program does.
 #![tactic(auto)]
 
+use replay_session::Bench;
+
 fn main(rt: HostRuntime) -> std::io::Result<()> {
     let names = [
         "nine.in",
@@ -16,5 +18,5 @@ fn main(rt: HostRuntime) -> std::io::Result<()> {
         "damaged.in",
         "damaged-without.in",
     ];
-    replay_run::stored(&rt, &names, replay_run::run)
+    replay_run::stored(&rt, &names, &Bench)
 }

@@ -1,3 +1,4 @@
 -- Laws that belong to no one function.
 pub mod Digits
 pub mod Emits
+pub mod Decimals

@@ -19,11 +19,22 @@ pub(crate) fn put(line: &[u8], text: &mut [u8]) -> Result<usize, Refusal>
     Ok(line.len())
 }
 
+// A refusal may have any number, so it has up to three digits.
 pub(crate) fn refusal(why: Refusal, text: &mut [u8]) -> Result<usize, Refusal>
     ensures { encoding result text.new ≡ fitted (refusal (row_of why)) text.old }
 {
+    let number = u8::from(why);
+    let ones = b'0' + number % 10;
+    if number < 10 {
+        return put(&[b'r', b'e', b'f', b'\t', ones, b'\n'], text);
+    }
+    let tens = b'0' + number / 10 % 10;
+    if number < 100 {
+        return put(&[b'r', b'e', b'f', b'\t', tens, ones, b'\n'], text);
+    }
+    let hundreds = b'0' + number / 100;
     put(
-        &[b'r', b'e', b'f', b'\t', b'0' + u8::from(why), b'\n'],
+        &[b'r', b'e', b'f', b'\t', hundreds, tens, ones, b'\n'],
         text,
     )
 }

@@ -50,7 +50,7 @@ impl<T: fmt::Display> fmt::Display for Shown<T> {
     }
 }
 
-// The bytes that an encoder wrote, or its refusal.
+// The bytes that an encoder wrote, or its refusal; nothing where they are more than the buffer has.
 pub fn encoded(written: Result<usize, Refusal>, out: &[u8]) -> Shown<Hex<'_>> {
-    Shown(written.map(|n| Hex(codec::front(out, n))))
+    Shown(written.map(|n| Hex(out.get(..n).unwrap_or(&[]))))
 }

@@ -6,7 +6,7 @@ use Prim.Native.Nat.{ℕ}
 use lib.ListN.{length, drop}
 use Rattle.std.specs.Prelude.{Result, Ok}
 use Rattle.codec.specs.declared.Refusal.{Refusal}
-use Rattle.codec.specs.Answer.{number_of, nonzero}
+use Rattle.codec.specs.Answer.{row_in}
 use Rattle.card.specs.declared.answer.Answer.TheVariants.{Silence}
 use Rattle.card.specs.declared.answer.Rows.{Rows}
 use Rattle.card.specs.declared.Open.{Open}
@@ -38,7 +38,7 @@ module _ (card : Card) (memory block : List ℕ) {o : Open} (state : o ≡ open_
   told : {k : Arrived} → k ≡ kind (incoming card.core.bus.mode o block) → kind (arrived (world card memory) block) ≡ k
   told h = ap (λ (x : Open). kind (incoming card.core.bus.mode x block)) (sym state) ∙ sym h
 
-module _ (card : Card) (memory block : List ℕ) (x : Result (Unit {0}) Refusal) (r : Rows) (judged : nonzero (number_of x) ≡ refusal BLOCK_ROWS r)
+module _ (card : Card) (memory block : List ℕ) (x : Result (Unit {0}) Refusal) (r : Rows) (judged : row_in x ≡ refusal BLOCK_ROWS r)
     (same : r ≡ rows card memory block) where
   came : {u : Unit {0}} → x ≡ Ok u → (y : Incoming) (v : Seen) → arrived (world card memory) block ≡ y
       → v ≡ seen (entered (world card memory) y) → v ≡ stepped card memory (block_in block)

@@ -1,5 +1,5 @@
 -- `field` takes bits out of a word.
-use Rattle.codec.proofs.Masks.{mask_room, masked, shifted-out, unmasked}
+use Rattle.codec.proofs.Masks.{masked, shifted-out, unmasked}
 use Rattle.codec.proofs.field.Goals as goal
 
 pub returns-then-low-ge64 : goal.returns-then-low-ge64

@@ -1,5 +1,5 @@
 -- `join` puts bits behind bits.
-use Rattle.codec.proofs.Masks.{mask_room, join-within, join-whole}
+use Rattle.codec.proofs.Masks.{join-within, join-whole}
 use Rattle.codec.proofs.join.Goals as goal
 
 pub returns-then-width-ge64 : goal.returns-then-width-ge64

@@ -10,7 +10,7 @@ use Rattle.reg_csd_decode.proofs.decode.Goals as goal
 pub returns-in_err-judge : goal.returns-in_err-judge
 unfolding width judged
 returns-in_err-judge c =
-    let h = decode_refused csd.slots refl (λ _. refl) _ _ c.in_err-judge.ensures in
+    let h = decode_refused csd.slots refl (λ _. refl) _ c.in_err-judge.field-0.0 c.in_err-judge.ensures in
     search rules
 
 pub returns : goal.returns

@@ -13,7 +13,7 @@ pub returns-in-Some-Blk : goal.returns-in-Some-Blk
 returns-in-Some-Blk c = by_word _ _ _ _ c.if-text-lt-ROOM.false (rw c.in-Some-Blk.field-0-is at c.in-Some-Blk.ensures) _ _ (blk-line _ _) c.block.ensures
 
 pub returns-in-Some-Take : goal.returns-in-Some-Take
-returns-in-Some-Take c = by_word _ _ _ _ c.if-text-lt-ROOM.false (rw c.in-Some-Take.field-0-is at c.in-Some-Take.ensures) _ _ (take-line _) c.take.ensures
+returns-in-Some-Take c = by_word _ _ _ _ c.if-text-lt-ROOM.false (rw c.in-Some-Take.field-0-is at c.in-Some-Take.ensures) _ _ (take-line _) c.take.ensures.answered
 
 pub returns-in-Some-Over : goal.returns-in-Some-Over
 returns-in-Some-Over c = by_word _ _ _ _ c.if-text-lt-ROOM.false (rw c.in-Some-Over.field-0-is at c.in-Some-Over.ensures) _ _ (over-line _) c.over.ensures

@@ -1,11 +1,12 @@
 -- The answer goes to its place in the text.
-use mathlib.Core.Path.{refl}
-use Rattle.replay_session.proofs.Ended.{all-behind, line-ends, played-by}
+use mathlib.Core.Path.{ap₂, subst}
+use mathlib.Core.List.{List}
+use Prim.Native.Nat.{ℕ}
+use Rattle.replay_session.proofs.Ended.{all-behind, line-ends}
 use Rattle.replay_session.proofs.end_line_with.Goals as goal
 
 pub returns : goal.returns
 returns g c =
     let at = c.place-at.ensures in
-    line-ends c.args.s _ _ c.args.text.now _ _ _ c.play-played.result at.0 at.1 _ (
-    played-by _ _ _ _ _ _ _ _ _ _ c.play-played.ensures refl c.front.ensures (all-behind c.place-at.result c.args.text.now)
-    ) _ c.end.ensures
+    line-ends c.args.s _ _ c.args.text.now _ _ _ c.play-played.result at.0 at.1 _
+    (rw (c.front.ensures, all-behind c.place-at.result c.args.text.now) at c.play-played.ensures) _ c.end.ensures

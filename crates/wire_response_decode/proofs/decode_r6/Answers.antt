@@ -18,7 +18,7 @@ returns-in_err-content c =
     let p = err_from_is_err_and c.from_residual.result c.from_residual.ensures.1 in
     rw (p.1, p.2)
     (read_short 3 (field 16 ∷ (field 16 ∷ [])) c.args.s.now
-    (λ i. (c.type_inv.s i).fits) refl (λ bs. refl) (Err _) (Err _) refl c.in_err-content.ensures)
+    (λ i. (c.type_inv.s i).fits) refl (λ bs. refl) (Err c.in_err-content.field-0.0) (Err c.in_err-content.field-0.0) refl c.in_err-content.ensures)
 
 pub returns : goal.returns
 unfolding width judged within

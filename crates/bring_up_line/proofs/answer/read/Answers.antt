@@ -31,6 +31,6 @@ pub returns : goal.returns
 returns c =
     let line = c.args.line.now in
     let here = c.in_ok-digits.ensures.cases in
-    ap said (rw here.1 at c.field_into.ensures)
+    ap said (rw here.1 at c.field_into.ensures.field)
     ∙ digits_said _ _ (eqb-false _ 0 (sym (rw here.1 at c.if-is_empty.ensures)))
     ∙ behind_word _ line (same_word line NONE _ _ c.as_slice.ensures c.if-eq.ensures) (sym (same_bytes (take 4 line) RSP) ∙ here.0)

@@ -1,12 +1,13 @@
--- The library's `all` by what the closure computes.
-use mathlib.Core.Path.{◌∙◌}
-use Rattle.std.proofs.Common.{rules, tests}
-use Rattle.std.proofs.lemmas.Iterator.{YieldsList-from_slice}
-use Rattle.std.proofs.lemmas.Iterator.Search.{all_from_yields_List}
-use Rattle.replay_read.proofs.Digits.{all_is}
+-- At the loop's head, whether all were digits so far, and the characters that are left.
+use mathlib.Core.Path.{sym, ◌∙◌}
+use Rattle.replay_read.proofs.Digits.{all_hex-next, all_hex-end}
+use borrow.Author.Rules.{rules}
 use Rattle.replay_read.proofs.hex.all_hex.Goals as goal
 
+pub loop-digit-preserved : goal.loop-digit-preserved
+loop-digit-preserved c =
+    c.loop-digit.invariant
+    ∙ all_hex-next c.args.digits.now c.loop-digit.digit-index c.loop-digit.right _ (search rules) c.is_digit-right.ensures
+
 pub returns : goal.returns
-returns c =
-    all_from_yields_List _ _ _ _ c.all.ensures.ran (YieldsList-from_slice c.args.digits.now c.iter.ensures.rest) (λ x b q k. search (rules, tests))
-    ∙ all_is c.args.digits.now
+returns c = sym (c.loop-digit.invariant ∙ all_hex-end c.args.digits.now c.loop-digit.digit-index c.loop-digit.right (search rules))
