@@ -1,4 +1,4 @@
--- Blocks swept one after the other, and a part of memory put back zeroed.
+-- Blocks swept one after the other, and a part of memory put back, zeroed or with a payload.
 use mathlib.Core.Path.{◌≡◌, refl, sym, ap, ap₂, ◌∙◌}
 use mathlib.Core.Bool.{Bool, false, cond}
 use mathlib.Core.List.{List, ◌++◌, append-nil}
@@ -6,9 +6,10 @@ use Prim.Native.Nat.{ℕ, ◌+◌, ◌-◌, ◌*◌, ◌<◌, ◌≤◌}
 use native.Mathlib.Omega.{arith}
 use borrow.Rule.Slice.PartMut.{mid_of, put_mid, mid_len, Post-is}
 use lib.ListN.{length, take, drop, replicate, length-replicate, drop_of_length-le}
+use lib.Seq.{take-length}
 use Rattle.card.specs.Settings.{BLOCK}
 use Rattle.card.specs.Protect.{guarded}
-use Rattle.card.specs.Effects.{swept_block, swept}
+use Rattle.card.specs.Effects.{over, swept_block, swept}
 use Rattle.card_protect.proofs.Blocks.{left_one}
 use Rattle.card_effect.specs.Apply.{zeroed}
 
@@ -46,3 +47,15 @@ swept-part all marks b m part h g e =
     ap (put_mid a (a + BLOCK - a) m) (zero_all (mid_of a (a + BLOCK - a) m) part 0 e refl) ∙ part-zeroed m a BLOCK (omega arith)
     ∙ sym (ap (λ (t : Bool). cond t m (take a m ++ (replicate BLOCK 0 ++ drop (a + length {A = ℕ} (replicate BLOCK 0)) m))) g
     ∙ ap (λ (n : ℕ). take a m ++ (replicate BLOCK 0 ++ drop (a + n) m)) (length-replicate {A = ℕ} BLOCK 0))
+
+-- a payload copied into the part that is lent for it
+pub stored-part : (m s part : List ℕ) (a : ℕ) → a + length s ≤ length m
+    → part ≡ take (length (mid_of a (a + length s - a) m)) s ++ drop (length s) (mid_of a (a + length s - a) m)
+    → put_mid a (a + length s - a) m part ≡ over m a s
+stored-part m s part a h e =
+    let n : a + length s - a ≡ length s = omega arith in
+    let size : length (mid_of a (a + length s - a) m) ≡ length s = mid_len a (a + length s) m h ∙ n in
+    let short : length (mid_of a (a + length s - a) m) ≤ length s = omega arith in
+    let whole : part ≡ s =
+    e ∙ ap₂ (λ (x y : List ℕ). x ++ y) (ap (λ (k : ℕ). take k s) size ∙ take-length s) (drop_of_length-le (mid_of a (a + length s - a) m) short) ∙ append-nil s in
+    ap₂ (λ (x y : List ℕ). take a m ++ (x ++ y)) whole (Post-is a (a + length s) m (omega arith))

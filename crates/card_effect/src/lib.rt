@@ -57,7 +57,7 @@ fn store(address: u32, payload: &[u8], memory: &mut [u8])
     if memory.len() < end {
         return;
     }
-    memory[start..end].copy_from_slice(payload);
+    codec::copy(&mut memory[start..end], payload);
 }
 
 // Zeroes every block, protected or not, and every mark.

@@ -186,12 +186,15 @@ pub fn behind(s: &[u8], n: usize) -> &[u8]
     &s[n.min(s.len())..]
 }
 
-// Copies as many bytes as both have room for, from the front; the library's copy asks its callers for two of one length.
+// Copies as many bytes as both have room for, from the front. By index: the library's copy is a `memmove`, which an archive for C would
+// ask its user for.
 pub fn copy(out: &mut [u8], s: &[u8])
     ensures { out.new ≡ take (length out.old) s.now ++ drop (length s.now) out.old }
 {
     let n = out.len().min(s.len());
-    out[..n].copy_from_slice(&s[..n]);
+    for i in 0..n {
+        out[i] = s[i];
+    }
 }
 
 // The byte of check and end bit behind bytes: CRC7, then a one.

@@ -1,11 +1,11 @@
 -- What the encoder writes: the packet, and what stood behind it.
 use mathlib.Core.Path.{◌≡◌, refl, sym, ap, ap₂, ◌∙◌}
-use mathlib.Core.List.{List, ◌++◌, append_assoc}
+use mathlib.Core.List.{List, ◌++◌, append_assoc, append-nil}
 use Prim.Native.Nat.{ℕ, ◌+◌, ◌*◌, ◌≤◌}
 use native.Mathlib.Omega.{arith}
 use borrow.Rule.Slice.PartMut.{put_mid}
-use lib.ListN.{length, take, drop, length-append, length-drop}
-use lib.Seq.{take_at, drop_at, drop-drop, length-take-le}
+use lib.ListN.{length, take, drop, length-append, length-drop, drop_of_length-le}
+use lib.Seq.{take_at, drop_at, drop-drop, length-take-le, take-length}
 use Rattle.crc.specs.Bits.{bits, bits_of, bytes}
 use Rattle.crc.specs.Crc.{crc, poly16, crc16_of}
 use Rattle.crc.proofs.Bits.{length-bytes}
@@ -15,6 +15,17 @@ use Rattle.wire_packet.proofs.Check.{bytes-check}
 pub length-packet : (payload : List ℕ) → length (packet payload) ≡ length payload + CHECK
 unfolding packet
 length-packet payload = simp (length-append, length-bytes) (omega arith)
+
+-- a payload copied to the part of a buffer that has its length
+pub copied-payload : (payload out : List ℕ) → length payload ≤ length out → (copied : List ℕ)
+    → copied ≡ take (length (take (length payload) out)) payload ++ drop (length payload) (take (length payload) out) → copied ≡ payload
+copied-payload payload out room copied e =
+    let l : length (take (length payload) out) ≡ length payload = length-take-le (length payload) out room in
+    e
+    ∙ ap₂ (λ (x y : List ℕ). x ++ y)
+    (ap (λ (j : ℕ). take j payload) l ∙ take-length payload)
+    (drop_of_length-le (take (length payload) out) {i = length payload} (omega arith))
+    ∙ append-nil payload
 
 -- the payload is copied to the front of the buffer, and `put32` fills the bytes behind it with the check
 module _ (payload out : List ℕ) (room : length payload + CHECK ≤ length out) where

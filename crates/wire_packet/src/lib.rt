@@ -24,7 +24,7 @@ pub fn encode(payload: &[u8], out: &mut [u8]) -> Result<usize, Refusal>
     if out.len() < PAYLOAD + CHECK {
         return Err(Refusal::Buffer);
     }
-    out[..n].copy_from_slice(payload);
+    codec::copy(&mut out[..n], payload);
     codec::put32(&mut out[n..n + CHECK], u32::from(crc::crc16(payload)));
     Ok(n + CHECK)
 }

@@ -8,7 +8,7 @@ use lib.ListN.{length}
 use Rattle.codec.specs.Answer.{Encoding, done}
 use Rattle.wire_packet.specs.Packet.{PAYLOAD, CHECK}
 use Rattle.wire_packet.proofs.Answers.{encode-done}
-use Rattle.wire_packet.proofs.Emitted.{length-packet, emitted}
+use Rattle.wire_packet.proofs.Emitted.{length-packet, copied-payload, emitted}
 use Rattle.wire_packet.proofs.encode.Goals as goal
 
 pub returns : goal.returns
@@ -18,7 +18,8 @@ returns c =
     let n = length payload in
     let least : 1 ≤ n = search rules in
     let most : n ≤ PAYLOAD = search rules in
+    let copied-room : n ≤ length out = omega arith in
     ap₂ {C = Encoding} (λ (k : ℕ) (s : List ℕ). record { answer = done k; buffer = s })
     (sym (length-packet payload))
-    (emitted payload out (omega arith) (n + CHECK - n) _ _ _ (omega arith) c.copy_from_slice.ensures.after (c.from.ensures ∙ c.crc16.ensures) c.put32.ensures)
+    (emitted payload out (omega arith) (n + CHECK - n) _ _ _ (omega arith) (copied-payload payload out copied-room _ c.copy.ensures) (c.from.ensures ∙ c.crc16.ensures) c.put32.ensures)
     ∙ encode-done payload out least most (omega arith)
