@@ -17,7 +17,7 @@ fn send(out: &[u8], n: usize) {
     io::write_all(1, front(&text, replay_write::end(0, line, 17)));
 }
 
-// A proved loop has to end: no run uses up its count.
+// A proved loop has to end: no run uses up its turns.
 fn bring_up<R: Read>(rt: &impl Print, input: &mut R, begun: Host) -> std::io::Result<()> {
     let mut lines = Lines::new();
     // one byte more than the longest line
@@ -25,7 +25,9 @@ fn bring_up<R: Read>(rt: &impl Print, input: &mut R, begun: Host) -> std::io::Re
     let mut bytes = [0u8; 514];
     let mut out = [0u8; 17];
     let mut stepped = host_step::step(begun, &[], &mut out);
-    for _ in 0..u64::MAX {
+    let mut turns = u64::MAX;
+    while turns > 0 {
+        turns -= 1;
         let host = stepped.host;
         let Answer::Sent(n) = stepped.answer else {
             bring_up_end::ended(rt, stepped.answer, host.found, host.polls);
