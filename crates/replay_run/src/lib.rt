@@ -1,8 +1,13 @@
 // The loop over an input, on the card of the bench.
 #![tactic(auto)]
 
+mod hear_fn;
+#[cfg(test)]
+mod tests;
+
 use card::Card;
 use codec::front;
+pub use hear_fn::HearFn;
 use replay_answer::Session;
 use replay_answer::bench::bench;
 use replay_read::fill;
@@ -84,8 +89,19 @@ impl Program for Bench {
     }
 }
 
+// A program that plays a stored history from its file, whatever a file is.
+pub trait FileProgram<F> {
+    fn play(&self, file: &mut F) -> std::io::Result<()>;
+}
+
+impl<F: Read, P: Program> FileProgram<F> for P {
+    fn play(&self, file: &mut F) -> std::io::Result<()> {
+        self.run(file)
+    }
+}
+
 // Plays stored histories one after the other, each from its beginning. Of one that cannot be opened it says so, and goes on.
-pub fn stored<R: Files + Print + Eprint, P: Program>(
+pub fn stored<R: Files + Print + Eprint, P: FileProgram<R::File>>(
     rt: &R,
     names: &[&str],
     program: &P,
@@ -94,7 +110,7 @@ pub fn stored<R: Files + Print + Eprint, P: Program>(
         match File::open(rt, *name) {
             Ok(mut file) => {
                 let _ = println!(rt; "# {name}");
-                program.run(&mut file)?;
+                program.play(&mut file)?;
             }
             Err(error) => eprintln!(rt; "{name}: {error}")?,
         }

@@ -2,6 +2,7 @@
 use mathlib.Core.Path.{◌≡◌, refl, sym, ap, ap₂, subst, ◌∙◌}
 use mathlib.Core.Bool.{Bool, true, false}
 use mathlib.Core.List.{List, [], ◌∷◌, ◌++◌, append-nil}
+use denote.Ref.{Bor, MutBor}
 use Prim.Native.Nat.{ℕ, ◌+◌, ◌-◌, ◌≤◌, min}
 use native.Mathlib.Omega.{arith}
 use borrow.Author.Tests.{ltb-false, leb-true, eqb-true, eqb-false}
@@ -12,13 +13,14 @@ use lib.Seq.{take_all}
 use Rattle.codec.specs.Answer.{Encoding, encoded}
 use Rattle.card.specs.Step.{World, world}
 use Rattle.card.proofs.Choices.{cond_elim}
+use Rattle.card.specs.declared.Card.{Card}
 use Rattle.replay_read.specs.Keep.{collected, kept}
 use Rattle.replay_write.specs.Write.{fitted, ROOM, size, place}
 use Rattle.replay_answer.specs.declared.Replayed.{Replayed}
 use Rattle.replay_answer.specs.declared.Session.{Session}
 use Rattle.replay_answer.specs.Played.{Shown, shown}
 use Rattle.replay_line.specs.Replay.{replayed, play_line}
-use Rattle.replay_session.specs.Session.{SessionState, NEWLINE, place_in, gather_into, line_ended, heard, heard_all, session, Plays, ended_with, LineEnds, Hears, HearsAll}
+use Rattle.replay_session.specs.Session.{SessionState, NEWLINE, place_in, gather_into, line_ended, heard, heard_all, session, Plays, Post, PlayedBy, ended_with, LineEnds, Hears, HearsAll}
 
 le_self : (n : ℕ) → n ≤ n
 le_self n = omega arith
@@ -60,7 +62,20 @@ module _ (s : Session) (memory line text after rest : List ℕ) (at : ℕ) (r : 
         ap₂ (λ (l : List ℕ) (n : ℕ). session (record { card = r.card; count = 0; wrote = n }) after line l) none h ∙ rw placed refl,
       )
 
+pub played-by : (post : Post) (w : World) (line text : List ℕ) (m : MutBor (List ℕ)) (l : Bor (List ℕ)) (t : MutBor (List ℕ))
+    (r : Replayed) (m' t' : MutBor (List ℕ)) → post w.card m l t r m' t' → m.now ≡ w.memory → l.now ≡ line → t.now ≡ text
+    → PlayedBy post w line text (shown r m'.now t'.now)
+unfolding PlayedBy
+played-by post w line text m l t r m' t' met a b d = (m, l, t, r, m', t', a, b, d, met, refl)
+
 -- ---- lines that are played on the card
+
+pub played-is : {post : Post}
+    → ((card : Card) (m : MutBor (List ℕ)) (l : Bor (List ℕ)) (t : MutBor (List ℕ)) (r : Replayed) (m' t' : MutBor (List ℕ))
+    → post card m l t r m' t' → shown r m'.now t'.now ≡ play_line (world card m.now) l.now t.now)
+    → (w : World) (line text : List ℕ) (x : Shown) → PlayedBy post w line text x → x ≡ play_line w line text
+unfolding PlayedBy
+played-is is w line text x (m, l, t, r, m', t', a, b, d, met, e) = e ∙ is w.card m l t r m' t' met ∙ rw (a, b, d) refl
 
 module _ (plays : Plays) (is : (w : World) (line text : List ℕ) (x : Shown) → plays w line text x → x ≡ play_line w line text) where
   -- an answer of the card ends in the text

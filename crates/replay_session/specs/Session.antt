@@ -1,11 +1,14 @@
 -- A session: bytes of input arrive one by one, and each newline plays the line that it ends and puts its answer into a text.
 use Rattle.std.specs.Prelude.{◌≡◌, Bool, true, cond, not, ◌&&◌, List, [], ◌∷◌, ◌++◌, ℕ, ◌+◌, min, eqb, length, take, drop}
+use Rattle.std.specs.Borrow.{Bor, MutBor}
 use Rattle.std.specs.List.{FoldsTo}
+use Rattle.card.specs.declared.Card.{Card}
 use Rattle.codec.specs.Answer.{Encoding}
 use Rattle.card.specs.Step.{World, world}
 use Rattle.replay_read.specs.Keep.{Collected, collected, keep_byte, kept}
 use Rattle.replay_write.specs.Write.{size, place}
 use Rattle.replay_answer.specs.Played.{Shown, shown}
+use Rattle.replay_answer.specs.declared.Replayed.{Replayed}
 use Rattle.replay_answer.specs.declared.Session.{Session}
 use Rattle.replay_line.specs.Replay.{replayed, play_line}
 
@@ -83,6 +86,15 @@ session s memory line text =
 -- what may be shown of a line that is played on a world, into a text
 abbrev pub Plays : Type 1
 Plays = World → List ℕ → List ℕ → Shown → Type 0
+
+abbrev pub Post : Type 1
+Post = Card → MutBor (List ℕ) → Bor (List ℕ) → MutBor (List ℕ) → Replayed → MutBor (List ℕ) → MutBor (List ℕ) → Type 0
+
+-- what is shown by a function, of which `post` says what a call may come to
+unfoldable pub PlayedBy : Post → Plays
+PlayedBy post w line text x =
+    (m : MutBor (List ℕ)) × (l : Bor (List ℕ)) × (t : MutBor (List ℕ)) × (r : Replayed) × (m' : MutBor (List ℕ)) × (t' : MutBor (List ℕ))
+    × (m.now ≡ w.memory) × (l.now ≡ line) × (t.now ≡ text) × post w.card m l t r m' t' × (x ≡ shown r m'.now t'.now)
 
 -- the answer goes to its place; whatever is said of its size, the text ends in the buffer
 abbrev pub ended_with : SessionState → Shown → SessionState

@@ -4,9 +4,11 @@
 ghost use Rattle.std.specs.Prelude.{◌≡◌};
 ghost use Rattle.replay_session.specs.Session.{line_ended, heard_all, session, LineEnds, HearsAll};
 
+mod play_fn;
 mod player;
 
 use codec::front;
+pub use play_fn::PlayFn;
 pub use player::{Bench, Player};
 use replay_answer::Session;
 use replay_read::keep;
@@ -20,7 +22,9 @@ fn end_line_with<P: Player>(
     text: &mut [u8],
     player: &P,
 ) -> Session
-    ensures { LineEnds P.plays (session s memory.old line.now text.old) (session result memory.new line.now text.new) }
+    ensures any { LineEnds P.plays (session s memory.old line.now text.old) (session result memory.new line.now text.new) }
+    ensures own { LineEnds (P.plays_by player.now) (session s memory.old line.now text.old)
+        (session result memory.new line.now text.new) }
 {
     let bytes = text.len();
     let at = place(text, s.wrote);
@@ -41,7 +45,9 @@ pub fn hear_all_with<P: Player>(
     chunk: &[u8],
     player: &P,
 ) -> Session
-    ensures { HearsAll P.plays (session s memory.old line.old text.old) chunk.now (session result memory.new line.new text.new) }
+    ensures any { HearsAll P.plays (session s memory.old line.old text.old) chunk.now (session result memory.new line.new text.new) }
+    ensures own { HearsAll (P.plays_by player.now) (session s memory.old line.old text.old) chunk.now
+        (session result memory.new line.new text.new) }
 {
     let mut now = s;
     for byte in chunk {
