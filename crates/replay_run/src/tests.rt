@@ -3,7 +3,7 @@ use super::{FileProgram, HearFn, hear_input, stored};
 use codec::front;
 use replay_answer::Session;
 use replay_answer::bench::bench;
-use replay_session::{PlayFn, hear_all_with};
+use replay_session::{PlayFn, hear_all_by};
 use replay_write::zeros;
 use std::cell::Cell;
 use std::io::{Seek, SeekFrom};
@@ -21,7 +21,7 @@ fn lines_are_played_by_the_function(rt: HostRuntime) {
     let by = PlayFn {
         play: |card, memory, line, text| replay_answer::unreadable(card, text),
     };
-    let s = hear_all_with(s, &mut memory, &mut line, &mut text, b"over\ntake\n", &by);
+    let s = hear_all_by(s, &mut memory, &mut line, &mut text, b"over\ntake\n", &by);
     assert_eq!(rt; front(&text, s.wrote), b"ref\t1\nref\t1\n".as_slice());
 }
 

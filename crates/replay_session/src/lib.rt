@@ -4,11 +4,13 @@
 ghost use Rattle.std.specs.Prelude.{◌≡◌};
 ghost use Rattle.replay_session.specs.Session.{line_ended, heard_all, session, LineEnds, HearsAll};
 
-mod play_fn;
+mod by;
+mod line_player;
 mod player;
 
+pub use by::hear_all_by;
 use codec::front;
-pub use play_fn::PlayFn;
+pub use line_player::{LinePlayer, PlayFn};
 pub use player::{Bench, Player};
 use replay_answer::Session;
 use replay_read::keep;
@@ -22,9 +24,7 @@ fn end_line_with<P: Player>(
     text: &mut [u8],
     player: &P,
 ) -> Session
-    ensures any { LineEnds P.plays (session s memory.old line.now text.old) (session result memory.new line.now text.new) }
-    ensures own { LineEnds (P.plays_by player.now) (session s memory.old line.now text.old)
-        (session result memory.new line.now text.new) }
+    ensures { LineEnds P.plays (session s memory.old line.now text.old) (session result memory.new line.now text.new) }
 {
     let bytes = text.len();
     let at = place(text, s.wrote);
@@ -45,9 +45,7 @@ pub fn hear_all_with<P: Player>(
     chunk: &[u8],
     player: &P,
 ) -> Session
-    ensures any { HearsAll P.plays (session s memory.old line.old text.old) chunk.now (session result memory.new line.new text.new) }
-    ensures own { HearsAll (P.plays_by player.now) (session s memory.old line.old text.old) chunk.now
-        (session result memory.new line.new text.new) }
+    ensures { HearsAll P.plays (session s memory.old line.old text.old) chunk.now (session result memory.new line.new text.new) }
 {
     let mut now = s;
     for byte in chunk {

@@ -9,15 +9,11 @@ use card::Card;
 use replay_answer::Replayed;
 
 pub trait Player {
-    // what may be shown of a line that is played on a world, into a text, by any player of the type
+    // what may be shown of a line that is played on a world, into a text
     ghost plays: { Plays };
 
-    // .. and by that very one: no more, where an impl does not say it
-    ghost plays_by: { Self → Plays } = { λ player w line text x. Unit {0} };
-
     fn play(&self, card: Card, memory: &mut [u8], line: &[u8], text: &mut [u8]) -> Replayed
-        ensures any { plays (world card memory.old) line.now text.old (shown result memory.new text.new) }
-        ensures own { plays_by self.now (world card memory.old) line.now text.old (shown result memory.new text.new) };
+        ensures { plays (world card memory.old) line.now text.old (shown result memory.new text.new) };
 }
 
 // The lines of the replay program.

@@ -4,26 +4,15 @@ use Rattle.replay_session.proofs.Heard.{ends-line, keeps_byte, next-byte, all-he
 use Rattle.replay_session.proofs.hear_all_with.Goals as goal
 
 pub loop-byte-preserved-then-byte-eq10 : goal.loop-byte-preserved-then-byte-eq10
-loop-byte-preserved-then-byte-eq10 g c = (
-  next-byte _ _ _ _ _ c.loop-byte.byte-index c.loop-byte-test.true
-      (ends-line _ _ _ _ c.if-byte-eq10.true c.end_line_with-now.ensures.any) c.loop-byte.invariant.0,
-  next-byte _ _ _ _ _ c.loop-byte.byte-index c.loop-byte-test.true
-      (ends-line _ _ _ _ c.if-byte-eq10.true c.end_line_with-now.ensures.own) c.loop-byte.invariant.1,
-)
+loop-byte-preserved-then-byte-eq10 g c =
+    next-byte _ _ _ _ _ c.loop-byte.byte-index c.loop-byte-test.true (ends-line _ _ _ _ c.if-byte-eq10.true c.end_line_with-now.ensures) c.loop-byte.invariant
 
 pub loop-byte-preserved : goal.loop-byte-preserved
 loop-byte-preserved g c =
-    let at = c.loop-byte in (
-      next-byte _ _ _ _ _ at.byte-index c.loop-byte-test.true (
-          keeps_byte _ at.now at.memory at.line at.text c.keep.new.line c.keep.result _ c.if-byte-eq10.false c.keep.ensures
-          ) at.invariant.0,
-      next-byte _ _ _ _ _ at.byte-index c.loop-byte-test.true (
-          keeps_byte _ at.now at.memory at.line at.text c.keep.new.line c.keep.result _ c.if-byte-eq10.false c.keep.ensures
-          ) at.invariant.1,
-    )
+    let at = c.loop-byte in
+    next-byte _ _ _ _ _ at.byte-index c.loop-byte-test.true (
+    keeps_byte _ at.now at.memory at.line at.text c.keep.new.line c.keep.result _ c.if-byte-eq10.false c.keep.ensures
+    ) at.invariant
 
-pub returns-clause-any : goal.returns-clause-any
-returns-clause-any g c = all-heard _ _ _ _ c.loop-byte.byte-index (search rules) c.loop-byte.invariant.0
-
-pub returns-clause-own : goal.returns-clause-own
-returns-clause-own g c = all-heard _ _ _ _ c.loop-byte.byte-index (search rules) c.loop-byte.invariant.1
+pub returns : goal.returns
+returns g c = all-heard _ _ _ _ c.loop-byte.byte-index (search rules) c.loop-byte.invariant

@@ -5,7 +5,5 @@ use Rattle.replay_session.proofs.hear_all_with.Given as goal
 
 abbrev pub invariant-loop-byte : goal.invariant-loop-byte
 invariant-loop-byte g l =
-    ((last : _) → HearsAll g.P.Player.plays (session l.now l.memory l.line l.text) (drop l.byte-index l.chunk) last
-    → HearsAll g.P.Player.plays (session l.initial.now l.initial.memory l.initial.line l.initial.text) l.chunk last)
-    × ((last : _) → HearsAll (g.P.Player.plays_by l.player) (session l.now l.memory l.line l.text) (drop l.byte-index l.chunk) last
-    → HearsAll (g.P.Player.plays_by l.player) (session l.initial.now l.initial.memory l.initial.line l.initial.text) l.chunk last)
+    (last : _) → HearsAll g.P.Player.plays (session l.now l.memory l.line l.text) (drop l.byte-index l.chunk) last
+    → HearsAll g.P.Player.plays (session l.initial.now l.initial.memory l.initial.line l.initial.text) l.chunk last
